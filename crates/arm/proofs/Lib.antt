@@ -1,0 +1,6 @@
+pub mod Choice
+pub mod ImmediateLaws
+pub mod Numbers
+pub mod OffsetLaws
+pub mod Reduce
+pub mod Sweep

@@ -1,0 +1,34 @@
+-- `shifter` meets its contract, by bits 25 and 4.
+use lib.Bits.{bitOr}
+use Rattle.arm.proofs.Choice.{if-yes, if-no}
+use Rattle.arm.specs.Sets.{shifter, rm, rs}
+use Rattle.arm.specs.Sets.{shifter, rm}
+use Rattle.arm.specs.Sets.{shifter}
+use borrow.Author.Needs.{needs}
+use Rattle.arm.proofs.sets.shifter.Statement.{statement}
+use Rattle.arm.proofs.sets.shifter.Tie as tie
+
+returns : tie.Need-returns
+unfolding shifter
+returns c = if-yes 25 _ _ _ (c .if1 .taken)
+
+rm-requires : tie.Need-rm-requires
+rm-requires c κs = search needs
+
+rs-requires : tie.Need-rs-requires
+rs-requires c κs = search needs
+
+returns-2 : tie.Need-returns-2
+unfolding shifter
+returns-2 c = cc (if-yes 4 _ (bitOr (rm (c .before .before .before .before .args .word)) (rs (c .before .before .before .before .args .word))) (rm (c .before .before .before .before .args .word)) (c .before .before .if2 .taken), if-no 25 _ 0 _ (c .before .before .before .if1 .left))
+
+rm-requires-2 : tie.Need-rm-requires-2
+rm-requires-2 c κs = search needs
+
+returns-3 : tie.Need-returns-3
+unfolding shifter
+returns-3 c = cc (if-no 4 _ (bitOr (rm (c .before .before .before .args .word)) (rs (c .before .before .before .args .word))) (rm (c .before .before .before .args .word)) (c .before .if2 .left), if-no 25 _ 0 _ (c .before .before .if1 .left))
+
+pub shifter-spec : {M : Type 1} → statement M
+shifter-spec =
+    tie.close (tie.spec returns rm-requires rs-requires returns-2 rm-requires-2 returns-3)

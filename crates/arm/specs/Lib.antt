@@ -1,0 +1,11 @@
+pub mod Class
+pub mod Diagram
+pub mod Encodings
+pub mod Deciding
+pub mod Fields
+pub mod Immediate
+pub mod Offset
+pub mod Operands
+pub mod Sets
+pub mod Naming
+pub mod Ins
