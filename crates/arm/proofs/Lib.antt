@@ -1,5 +1,6 @@
 pub mod Choice
 pub mod ImmediateLaws
+pub mod ManualLaws
 pub mod Numbers
 pub mod OffsetLaws
 pub mod Reduce

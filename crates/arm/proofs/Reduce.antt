@@ -2,7 +2,7 @@
 use mathlib.Core.Path.{_≡_, refl, ap, ap₂, sym, _∙_}
 use mathlib.Core.Bool.{Bool, true, false}
 use mathlib.Core.List.{List, [], _∷_}
-use Prim.Native.Nat.{ℕ, _/_, _%_}
+use Prim.Native.Nat.{ℕ, _/_, _%_, _<_}
 use native.Mathlib.Omega.{arith}
 use lib.Dec.{T, eqb}
 use borrow.Author.Tests.{eq-eqb, ne-eqb}
@@ -81,11 +81,19 @@ undefineds-within : T (all-within decisive undefineds)
 unfolding decisive undefineds Diagram.cond
 undefineds-within = tt
 
+-- the view of the word that has only the deciding fields of w
+abbrev pub deciding : ℕ → List ℕ
+deciding w = viewAt (never w) (w / 1048576 % 256) (w / 4096 % 2) (w / 16 % 16)
+
+pub encodings-decided : (w : ℕ) → fitting encodings (view w) ≡ fitting encodings (deciding w)
+encodings-decided w = fitting-same decisive (view w) (deciding w) (view-same w) encodings encodings-within
+
+pub undefineds-decided : (w : ℕ) → fitting undefineds (view w) ≡ fitting undefineds (deciding w)
+undefineds-decided w = fitting-same decisive (view w) (deciding w) (view-same w) undefineds undefineds-within
+
 pub reduced : (w : ℕ) → encodingOf w ≡ encodingAt (never w) (w / 1048576 % 256) (w / 4096 % 2) (w / 16 % 16)
 unfolding encodingOf encodingAt encodingOn
-reduced w =
-    let v = viewAt (never w) (w / 1048576 % 256) (w / 4096 % 2) (w / 16 % 16) in
-    rw (fitting-same decisive (view w) v (view-same w) encodings encodings-within, fitting-same decisive (view w) v (view-same w) undefineds undefineds-within)
+reduced w = rw (encodings-decided w, undefineds-decided w)
 
 pub never-yes : (w : ℕ) → w / 268435456 ≡ 15 → never w ≡ 1
 unfolding never
@@ -94,3 +102,11 @@ never-yes w e = rw (eq-eqb (w / 268435456) 15 e, never)
 pub never-no : (w : ℕ) → (w / 268435456 ≡ 15 → ⊥) → never w ≡ 0
 unfolding never
 never-no w n = rw (ne-eqb (w / 268435456) 15 n, never)
+
+pub never-below : (w : ℕ) → never w < 2
+unfolding never
+never-below w = go (eqb (w / 268435456) 15)
+  where
+    go : (t : Bool) → elim t as (λ _. ℕ) [ true ↦ 1 | false ↦ 0 ] < 2
+    go true = omega arith
+    go false = omega arith

@@ -27,7 +27,7 @@ abbrev step : ℕ → List Encoding → List Encoding
 step b [] = []
 step b (e ∷ es) = keep b (e .class) (e .at) (step b es)
 
-abbrev steps : List ℕ → List Encoding → List Encoding
+abbrev pub steps : List ℕ → List Encoding → List Encoding
 steps [] es = es
 steps (b ∷ v) es = steps v (step b es)
 
@@ -47,7 +47,7 @@ unfolding fitting
 step-fits b v [] = refl
 step-fits b v (e ∷ es) = keep-fits b v (e .class) (e .at) (step b es) (fitting es (b ∷ v)) (step-fits b v es)
 
-steps-fit : (u v : List ℕ) (es : List Encoding) → fitting es (u ++ v) ≡ fitting (steps u es) v
+pub steps-fit : (u v : List ℕ) (es : List Encoding) → fitting es (u ++ v) ≡ fitting (steps u es) v
 steps-fit [] v es = refl
 steps-fit (b ∷ u) v es = step-fits b (u ++ v) es ∙ steps-fit u v (step b es)
 
@@ -61,14 +61,14 @@ abbrev pub between : ℕ → ℕ → ℕ → Bound
 between l x m = record { least = l; number = x; most = m }
 
 -- the second test where the first passes; the second is computed only there
-abbrev and : Bool → Bool → Bool
+abbrev pub and : Bool → Bool → Bool
 and s t = elim s [ true ↦ t | false ↦ false ]
 
-and-left : (s t : Bool) → T (and s t) → T s
+pub and-left : (s t : Bool) → T (and s t) → T s
 and-left true t h = tt
 and-left false t h = h
 
-and-right : (s t : Bool) → T (and s t) → T t
+pub and-right : (s t : Bool) → T (and s t) → T t
 and-right true t h = h
 and-right false t h = absurd h
 
@@ -91,11 +91,11 @@ inside-true (b ∷ bs) h =
     (and-true (leb (b .number) (b .most)) (inside bs) (le-leb (b .number) (b .most) (h .1 .0)) (inside-true bs (h .1 .1)))
 
 -- n numbers from a on pass a test
-abbrev every : ℕ → ℕ → (ℕ → Bool) → Bool
+abbrev pub every : ℕ → ℕ → (ℕ → Bool) → Bool
 every zero a p = true
 every (suc n) a p = elim (p a) [ true ↦ every n (suc a) p | false ↦ false ]
 
-every-at : (n a : ℕ) (p : ℕ → Bool) → T (every n a p) → (x : ℕ) → a ≤ x → x < a + n → T (p x)
+pub every-at : (n a : ℕ) (p : ℕ → Bool) → T (every n a p) → (x : ℕ) → a ≤ x → x < a + n → T (p x)
 every-at zero a p t x h l = absurd (omega arith)
 every-at (suc n) a p t x h l =
     ⊎-elim (λ (e : a ≡ x). subst (λ (y : ℕ). T (p y)) e (and-left (p a) (every n (suc a) p) t))
@@ -106,7 +106,7 @@ abbrev narrowed : List Encoding → List Encoding → List ℕ → Class
 narrowed es us v = firstOr (firstOr Illegal (fitting es v)) (fitting us v)
 
 -- the columns after bit 20
-abbrev rest : ℕ → ℕ → List ℕ
+abbrev pub rest : ℕ → ℕ → List ℕ
 rest odd low = 0 ∷ 0 ∷ 0 ∷ 0 ∷ 0 ∷ 0 ∷ 0 ∷ odd ∷ 0 ∷ 0 ∷ 0 ∷ 0 ∷ bits 4 low ++ (0 ∷ 0 ∷ 0 ∷ 0 ∷ [])
 
 -- at the fields of a region the encoding's class is k

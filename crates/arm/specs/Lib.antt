@@ -1,3 +1,4 @@
+-- The decoder's definitions: the manual's encodings, operands and register sets, and document 01's naming rules.
 pub mod Class
 pub mod Diagram
 pub mod Encodings
@@ -6,6 +7,7 @@ pub mod Fields
 pub mod Immediate
 pub mod Offset
 pub mod Operands
-pub mod Sets
 pub mod Naming
+pub mod Manual
+pub mod Sets
 pub mod Ins

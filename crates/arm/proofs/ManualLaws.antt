@@ -1,0 +1,301 @@
+-- For every word: at most one class has a diagram that fits; the encoding's class, and the class after document 01's naming rules,
+-- are the manual's; and Illegal is exactly what fits no diagram or is called UNDEFINED.
+use mathlib.Core.Path.{_≡_, refl, sym, ap, subst, _∙_}
+use mathlib.Core.Bool.{Bool, true, false}
+use mathlib.Core.List.{List, [], _∷_, List·Memᴰ, List·Memᴰ·head, List·Memᴰ·tail, List·Memᴰ·not-nil}
+use mathlib.Core.Logic.{_⊎_, inl, inr, ⊎-elim}
+use Prim.Native.Nat.{ℕ, _/_, _%_, _<_, _≤_}
+use native.Mathlib.Omega.{arith}
+use lib.Dec.{T, eqb, ltb, ltb→lt}
+use Rattle.arm.specs.declared.Class.{Class}
+use Rattle.arm.specs.declared.Class.the-variants.{Illegal, Mov, Stm, Ldm, Push, Pop}
+use Rattle.arm.specs.declared.ShiftOp.{ShiftOp}
+use Rattle.arm.specs.declared.ShiftOp.the-variants.{Lsl, Lsr, Asr, Ror, Rrx}
+use Rattle.arm.specs.declared.Op2.{Op2}
+use Rattle.arm.specs.declared.Op2.the-variants.{Imm, ShiftImm, ShiftReg}
+use Rattle.arm.specs.Class.{classNo}
+use Rattle.arm.specs.Diagram
+use Rattle.arm.specs.Diagram.{Encoding, fits, fitting, firstOr, bits, view, never}
+use Rattle.arm.specs.Encodings.{encodings, undefineds, encodingOn, encodingOf}
+use Rattle.arm.specs.Deciding.{viewAt}
+use Rattle.arm.specs.Naming.{shiftName, movName, stmName, ldmName, is, nameOf, classOf}
+use Rattle.arm.specs.Operands.{op2Of}
+use Rattle.arm.specs.Manual.{Fits, Undefined, OfManual, Added, Named}
+use Rattle.arm.proofs.Numbers.{same-number}
+use Rattle.arm.proofs.Reduce.{deciding, encodings-decided, never-below}
+use Rattle.arm.proofs.Sweep.{steps, steps-fit, and, and-left, and-right, every, every-at, rest}
+
+-- ---- at most one class fits
+
+abbrev alike : Class → List Class → Bool
+alike k [] = true
+alike k (c ∷ cs) = and (eqb (classNo c) (classNo k)) (alike k cs)
+
+abbrev all-alike : List Class → Bool
+all-alike [] = true
+all-alike (c ∷ cs) = alike c cs
+
+alike-cells : ℕ → ℕ → Bool
+unfolding bits encodings fitting fits Diagram.cond Diagram.nv classNo
+alike-cells nv op =
+    let es = steps (nv ∷ bits 8 op) encodings in
+    every 2 0 (λ odd. every 16 0 (λ low. all-alike (fitting es (rest odd low))))
+
+alike-everywhere : T (every 2 0 (λ nv. every 256 0 (alike-cells nv)))
+unfolding alike-cells
+alike-everywhere = tt
+
+alike-at : (nv op odd low : ℕ) → nv < 2 → op < 256 → odd < 2 → low < 16 → T (all-alike (fitting encodings (viewAt nv op odd low)))
+unfolding alike-cells viewAt
+alike-at nv op odd low v o d l =
+    let es = steps (nv ∷ bits 8 op) encodings in
+    let half = every-at 2 0 (λ nv. every 256 0 (alike-cells nv)) alike-everywhere nv (omega arith) (omega arith) in
+    let row = every-at 256 0 (alike-cells nv) half op (omega arith) (omega arith) in
+    let col = every-at 2 0 (λ odd. every 16 0 (λ low. all-alike (fitting es (rest odd low)))) row odd (omega arith) (omega arith) in
+    let cell = every-at 16 0 (λ low. all-alike (fitting es (rest odd low))) col low (omega arith) (omega arith) in
+    subst (λ (cs : List Class). T (all-alike cs)) (sym (steps-fit (nv ∷ bits 8 op) (rest odd low) encodings)) cell
+
+alike-word : (w : ℕ) → T (all-alike (fitting encodings (view w)))
+alike-word w =
+    rw (encodings-decided w)
+    (alike-at (never w) (w / 1048576 % 256) (w / 4096 % 2) (w / 16 % 16) (never-below w) (omega arith) (omega arith) (omega arith))
+
+alike-member : (c k : Class) (cs : List Class) → T (alike c cs) → List·Memᴰ k cs → k ≡ c
+alike-member c k (d ∷ cs) t (List·Memᴰ·head e) = e ∙ same-number d c (and-left (eqb (classNo d) (classNo c)) (alike c cs) t)
+alike-member c k (d ∷ cs) t (List·Memᴰ·tail m) = alike-member c k cs (and-right (eqb (classNo d) (classNo c)) (alike c cs) t) m
+
+first-member : (k : Class) (cs : List Class) → T (all-alike cs) → List·Memᴰ k cs → firstOr Illegal cs ≡ k
+unfolding firstOr
+first-member k (c ∷ cs) t (List·Memᴰ·head e) = sym e
+first-member k (c ∷ cs) t (List·Memᴰ·tail m) = sym (alike-member c k cs t m)
+
+-- The class of a diagram that fits is the only one.
+pub one-class : (w : ℕ) (j k : Class) → Fits w j → Fits w k → j ≡ k
+one-class w j k m n =
+    sym (first-member j (fitting encodings (view w)) (alike-word w) m) ∙ first-member k (fitting encodings (view w)) (alike-word w) n
+
+-- ---- the encoding's class
+
+-- what the text calls UNDEFINED is Illegal
+abbrev illegal : List Encoding → Bool
+illegal [] = true
+illegal (e ∷ es) = and (eqb (classNo (e .class)) (classNo Illegal)) (illegal es)
+
+illegal-undefineds : T (illegal undefineds)
+unfolding undefineds classNo Diagram.cond
+illegal-undefineds = tt
+
+-- a list that is empty, or begins with Illegal
+abbrev Starts : List Class → Type 0
+Starts cs = (cs ≡ []) ⊎ ((more : List Class) × (cs ≡ Illegal ∷ more))
+
+starts : (v : List ℕ) (es : List Encoding) → T (illegal es) → Starts (fitting es v)
+unfolding fitting
+starts v [] t = inl refl
+starts v (e ∷ es) t = go (fits (e .at) v) (starts v es (and-right (eqb (classNo (e .class)) (classNo Illegal)) (illegal es) t))
+  where
+    go : (b : Bool) → Starts (fitting es v) → Starts (elim b as (λ _. List Class) [ true ↦ e .class ∷ fitting es v | false ↦ fitting es v ])
+    go true below = inr (fitting es v, ap (λ (c : Class). c ∷ fitting es v) (same-number (e .class) Illegal (and-left (eqb (classNo (e .class)) (classNo Illegal)) (illegal es) t)))
+    go false below = below
+
+undefined-or : (w : ℕ) → Starts (fitting undefineds (view w))
+undefined-or w = starts (view w) undefineds illegal-undefineds
+
+-- every diagram is of one of the manual's instructions
+abbrev manual : List Encoding → Bool
+manual [] = true
+manual (e ∷ es) = and (ltb (classNo (e .class)) 67) (manual es)
+
+manual-encodings : T (manual encodings)
+unfolding encodings classNo Diagram.cond Diagram.nv
+manual-encodings = tt
+
+manual-fitting : (v : List ℕ) (es : List Encoding) → T (manual es) → (k : Class) → List·Memᴰ k (fitting es v) → classNo k < 67
+unfolding fitting
+manual-fitting v [] t k m = elim m [ ]
+manual-fitting v (e ∷ es) t k m =
+    go (fits (e .at) v) (manual-fitting v es (and-right (ltb (classNo (e .class)) 67) (manual es) t) k) m
+  where
+    go : (b : Bool) → (List·Memᴰ k (fitting es v) → classNo k < 67) → List·Memᴰ k (elim b as (λ _. List Class) [ true ↦ e .class ∷ fitting es v | false ↦ fitting es v ]) → classNo k < 67
+    go true below (List·Memᴰ·head h) = subst (λ (c : Class). classNo c < 67) (sym h) (ltb→lt (classNo (e .class)) 67 (and-left (ltb (classNo (e .class)) 67) (manual es) t))
+    go true below (List·Memᴰ·tail h) = below h
+    go false below h = below h
+
+pub fits-manual : (w : ℕ) (k : Class) → Fits w k → OfManual k
+fits-manual w k m = manual-fitting (view w) encodings manual-encodings k m
+
+-- A diagram of k fits and the text does not call the word UNDEFINED: the encoding's class is k.
+pub encoding-named : (w : ℕ) (k : Class) → Fits w k → (Undefined w → ⊥) → encodingOf w ≡ k
+unfolding encodingOf encodingOn firstOr
+encoding-named w k m n =
+    ⊎-elim (λ (e : fitting undefineds (view w) ≡ []). rw e (first-member k (fitting encodings (view w)) (alike-word w) m))
+    (λ (e : (more : List Class) × (fitting undefineds (view w) ≡ Illegal ∷ more)). absurd (n (rw (e .1) (List·Memᴰ·head refl))))
+    (undefined-or w)
+
+-- It is Illegal where the text calls the word UNDEFINED, and where no diagram fits.
+pub encoding-undefined : (w : ℕ) → Undefined w → encodingOf w ≡ Illegal
+unfolding encodingOf encodingOn firstOr
+encoding-undefined w u =
+    ⊎-elim (λ (e : fitting undefineds (view w) ≡ []). absurd (List·Memᴰ·not-nil (rw e at u)))
+    (λ (e : (more : List Class) × (fitting undefineds (view w) ≡ Illegal ∷ more)). rw (e .1))
+    (undefined-or w)
+
+none-fits : (cs : List Class) → ((k : Class) → List·Memᴰ k cs → ⊥) → firstOr Illegal cs ≡ Illegal
+unfolding firstOr
+none-fits [] n = refl
+none-fits (c ∷ cs) n = absurd (n c (List·Memᴰ·head refl))
+
+pub encoding-absent : (w : ℕ) → ((k : Class) → Fits w k → ⊥) → encodingOf w ≡ Illegal
+unfolding encodingOf encodingOn firstOr
+encoding-absent w n =
+    ⊎-elim (λ (e : fitting undefineds (view w) ≡ []). rw e (none-fits (fitting encodings (view w)) n))
+    (λ (e : (more : List Class) × (fitting undefineds (view w) ≡ Illegal ∷ more)). rw (e .1))
+    (undefined-or w)
+
+-- Every word is of one of these three kinds.
+kinds-of : (cs : List Class) → ((k : Class) × List·Memᴰ k cs) ⊎ ((k : Class) → List·Memᴰ k cs → ⊥)
+kinds-of [] = inr (λ k m. List·Memᴰ·not-nil m)
+kinds-of (c ∷ cs) = inl (c, List·Memᴰ·head refl)
+
+pub kinds : (w : ℕ) → ((k : Class) × (Fits w k × (Undefined w → ⊥))) ⊎ (Undefined w ⊎ ((k : Class) → Fits w k → ⊥))
+kinds w = go (undefined-or w) (kinds-of (fitting encodings (view w)))
+  where
+    go : Starts (fitting undefineds (view w)) → ((k : Class) × Fits w k) ⊎ ((k : Class) → Fits w k → ⊥) → ((k : Class) × (Fits w k × (Undefined w → ⊥))) ⊎ (Undefined w ⊎ ((k : Class) → Fits w k → ⊥))
+    go (inl e) (inl m) = inl (m .0, (m .1, λ u. List·Memᴰ·not-nil (rw e at u)))
+    go (inl e) (inr n) = inr (inr n)
+    go (inr e) k = inr (inl (rw (e .1) (List·Memᴰ·head refl)))
+
+-- ---- the class, after the naming rules
+
+added-shift : (o : ShiftOp) → (shiftName o ≡ Mov) ⊎ Added (shiftName o)
+unfolding shiftName classNo
+added-shift Lsl = inr (omega arith)
+added-shift Lsr = inr (omega arith)
+added-shift Asr = inr (omega arith)
+added-shift Ror = inr (omega arith)
+added-shift Rrx = inl refl
+
+added-mov : (o : Op2) → (movName o ≡ Mov) ⊎ Added (movName o)
+unfolding movName
+added-mov (Imm v) = inl refl
+added-mov (ShiftImm rm o n) = go (eqb n 0)
+  where
+    go : (b : Bool) → (elim b as (λ _. Class) [ true ↦ Mov | false ↦ shiftName o ] ≡ Mov) ⊎ Added (elim b as (λ _. Class) [ true ↦ Mov | false ↦ shiftName o ])
+    go true = inl refl
+    go false = added-shift o
+added-mov (ShiftReg rm o rs) = added-shift o
+
+added-stm : (w : ℕ) → (stmName w ≡ Stm) ⊎ Added (stmName w)
+unfolding stmName classNo
+added-stm w = go (eqb (w / 65536 % 512) 301)
+  where
+    go : (b : Bool) → (elim b as (λ _. Class) [ true ↦ Push | false ↦ Stm ] ≡ Stm) ⊎ Added (elim b as (λ _. Class) [ true ↦ Push | false ↦ Stm ])
+    go true = inr (omega arith)
+    go false = inl refl
+
+added-ldm : (w : ℕ) → (ldmName w ≡ Ldm) ⊎ Added (ldmName w)
+unfolding ldmName classNo
+added-ldm w = go (eqb (w / 65536 % 512) 189)
+  where
+    go : (b : Bool) → (elim b as (λ _. Class) [ true ↦ Pop | false ↦ Ldm ] ≡ Ldm) ⊎ Added (elim b as (λ _. Class) [ true ↦ Pop | false ↦ Ldm ])
+    go true = inr (omega arith)
+    go false = inl refl
+
+-- a rule keeps the name, or gives one of the added ones
+renamed : (k : Class) (w : ℕ) → (nameOf k w ≡ k) ⊎ Added (nameOf k w)
+unfolding nameOf
+renamed k w = go (is k Mov) refl (is k Stm) refl (is k Ldm) refl
+  where
+    known : (j : Class) → is k j ≡ true → k ≡ j
+    known j e = same-number k j (subst (λ (b : Bool). T b) (sym e) tt)
+
+    kept : (j : Class) → k ≡ j → (n : Class) → (n ≡ j) ⊎ Added n → (n ≡ k) ⊎ Added n
+    kept j e n (inl f) = inl (f ∙ sym e)
+    kept j e n (inr a) = inr a
+
+    named : Bool → Bool → Bool → Class
+    named a b c =
+        elim a [
+          | true ↦ movName (op2Of w)
+          | false ↦ elim b [
+            | true ↦ stmName w
+            | false ↦ elim c [ true ↦ ldmName w | false ↦ k ]
+          ]
+        ]
+
+    go : (a : Bool) → is k Mov ≡ a → (b : Bool) → is k Stm ≡ b → (c : Bool) → is k Ldm ≡ c → (named a b c ≡ k) ⊎ Added (named a b c)
+    go true p b q c r = kept Mov (known Mov p) (movName (op2Of w)) (added-mov (op2Of w))
+    go false p true q c r = kept Stm (known Stm q) (stmName w) (added-stm w)
+    go false p false q true r = kept Ldm (known Ldm r) (ldmName w) (added-ldm w)
+    go false p false q false r = inl refl
+
+illegal-kept : (w : ℕ) → nameOf Illegal w ≡ Illegal
+unfolding nameOf classNo
+illegal-kept w = refl
+
+unmoved : (j k : Class) (w : ℕ) → nameOf j w ≡ k → (Added k → ⊥) → j ≡ k
+unmoved j k w e n =
+    ⊎-elim (λ (f : nameOf j w ≡ j). sym f ∙ e) (λ (a : Added (nameOf j w)). absurd (n (subst (λ (c : Class). Added c) e a))) (renamed j w)
+
+-- Where a diagram of k fits and the text does not call the word UNDEFINED, its class is k under 01's rules.
+pub class-by-rule : (w : ℕ) (k : Class) → Fits w k → (Undefined w → ⊥) → classOf w ≡ nameOf k w
+unfolding classOf
+class-by-rule w k m n = ap (λ (j : Class). nameOf j w) (encoding-named w k m n)
+
+illegal-apart : (k : Class) → OfManual k → k ≡ Illegal → ⊥
+unfolding classNo
+illegal-apart k h e = let n : classNo k ≡ 73 = ap classNo e in omega arith
+
+added-apart : (k : Class) → OfManual k → Added k → ⊥
+added-apart k h a = omega arith
+
+illegal-added : Added Illegal → ⊥
+unfolding classNo
+illegal-added a = omega arith
+
+-- A word's class is one of the manual's exactly where its diagram fits, the text does not call the word UNDEFINED and no rule moves it.
+pub named-class : (w : ℕ) (k : Class) → Named w k → classOf w ≡ k
+named-class w k m = class-by-rule w k (m .fits) (m .defined) ∙ m .kept
+
+pub class-named : (w : ℕ) (k : Class) → OfManual k → classOf w ≡ k → Named w k
+unfolding classOf
+class-named w k h e = go (kinds w)
+  where
+    same : encodingOf w ≡ k
+    same = unmoved (encodingOf w) k w e (added-apart k h)
+
+    go : ((j : Class) × (Fits w j × (Undefined w → ⊥))) ⊎ (Undefined w ⊎ ((j : Class) → Fits w j → ⊥)) → Named w k
+    go (inl m) =
+        let j≡k : m .0 ≡ k = sym (encoding-named w (m .0) (m .1 .0) (m .1 .1)) ∙ same in
+        record {
+          fits = subst (λ (j : Class). Fits w j) j≡k (m .1 .0);
+          defined = m .1 .1;
+          kept = subst (λ (j : Class). nameOf j w ≡ k) same e;
+        }
+    go (inr (inl u)) = absurd (illegal-apart k h (sym same ∙ encoding-undefined w u))
+    go (inr (inr n)) = absurd (illegal-apart k h (sym same ∙ encoding-absent w n))
+
+-- It is Illegal exactly where the text calls the word UNDEFINED or no diagram fits.
+pub illegal-class : (w : ℕ) → Undefined w ⊎ ((k : Class) → Fits w k → ⊥) → classOf w ≡ Illegal
+unfolding classOf
+illegal-class w (inl u) = ap (λ (j : Class). nameOf j w) (encoding-undefined w u) ∙ illegal-kept w
+illegal-class w (inr n) = ap (λ (j : Class). nameOf j w) (encoding-absent w n) ∙ illegal-kept w
+
+pub class-illegal : (w : ℕ) → classOf w ≡ Illegal → Undefined w ⊎ ((k : Class) → Fits w k → ⊥)
+unfolding classOf
+class-illegal w e = go (kinds w)
+  where
+    same : encodingOf w ≡ Illegal
+    same = unmoved (encodingOf w) Illegal w e illegal-added
+
+    go : ((j : Class) × (Fits w j × (Undefined w → ⊥))) ⊎ (Undefined w ⊎ ((j : Class) → Fits w j → ⊥)) → Undefined w ⊎ ((k : Class) → Fits w k → ⊥)
+    go (inl m) = absurd (illegal-apart (m .0) (fits-manual w (m .0) (m .1 .0)) (sym (encoding-named w (m .0) (m .1 .0) (m .1 .1)) ∙ same))
+    go (inr n) = n
+
+-- The names that document 01 adds: exactly where a rule moves the word to them.
+pub class-added : (w : ℕ) (k : Class) → Added k → classOf w ≡ k → (j : Class) × (Fits w j × (Undefined w → ⊥) × (nameOf j w ≡ k))
+class-added w k a e = go (kinds w)
+  where
+    go : ((j : Class) × (Fits w j × (Undefined w → ⊥))) ⊎ (Undefined w ⊎ ((j : Class) → Fits w j → ⊥)) → (j : Class) × (Fits w j × (Undefined w → ⊥) × (nameOf j w ≡ k))
+    go (inl m) = (m .0, (m .1 .0, m .1 .1, sym (class-by-rule w (m .0) (m .1 .0) (m .1 .1)) ∙ e))
+    go (inr n) = absurd (illegal-added (subst (λ (c : Class). Added c) (sym e ∙ illegal-class w n) a))
