@@ -2,7 +2,7 @@
 mod encoding;
 mod immediate;
 mod naming;
-mod offset;
+pub mod offset;
 mod operands;
 pub mod order;
 mod sets;

@@ -28,7 +28,7 @@ pub fn load_offset(word: u32) -> i32
 }
 
 // The bits of `offset` in two's complement.
-fn pattern(offset: i32) -> u32
+pub fn pattern(offset: i32) -> u32
     ensures { λ r. ⌜ r ≡ ofZ w32 offset ⌝ }
 {
     if offset < 0 {
