@@ -5,10 +5,10 @@ use borrow.Author.Tests.{eq-eqb, ne-eqb}
 use Rattle.arm.specs.Fields.{bit}
 use Rattle.arm.specs.Sets.{ifBit}
 
-pub if-yes : (i w a b : ℕ) → bit i w ≡ 1 → a ≡ ifBit i w a b
+pub if-yes : {A : Type 0} (i w : ℕ) (a b : A) → bit i w ≡ 1 → a ≡ ifBit i w a b
 unfolding ifBit
 if-yes i w a b h = rw (eq-eqb (bit i w) 1 h, ifBit)
 
-pub if-no : (i w a b : ℕ) → (bit i w ≡ 1 → ⊥) → b ≡ ifBit i w a b
+pub if-no : {A : Type 0} (i w : ℕ) (a b : A) → (bit i w ≡ 1 → ⊥) → b ≡ ifBit i w a b
 unfolding ifBit
 if-no i w a b h = rw (ne-eqb (bit i w) 1 h, ifBit)

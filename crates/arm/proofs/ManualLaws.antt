@@ -4,9 +4,10 @@ use mathlib.Core.Path.{_≡_, refl, sym, ap, subst, _∙_}
 use mathlib.Core.Bool.{Bool, true, false}
 use mathlib.Core.List.{List, [], _∷_, List·Memᴰ, List·Memᴰ·head, List·Memᴰ·tail, List·Memᴰ·not-nil}
 use mathlib.Core.Logic.{_⊎_, inl, inr, ⊎-elim}
-use Prim.Native.Nat.{ℕ, _/_, _%_, _<_, _≤_}
+use Prim.Native.Nat.{ℕ, _/_, _%_, _<_}
 use native.Mathlib.Omega.{arith}
 use lib.Dec.{T, eqb, ltb, ltb→lt}
+use lib.ListN.{length}
 use Rattle.arm.specs.declared.Class.{Class}
 use Rattle.arm.specs.declared.Class.the-variants.{Illegal, Mov, Stm, Ldm, Push, Pop}
 use Rattle.arm.specs.declared.ShiftOp.{ShiftOp}
@@ -15,15 +16,29 @@ use Rattle.arm.specs.declared.Op2.{Op2}
 use Rattle.arm.specs.declared.Op2.the-variants.{Imm, ShiftImm, ShiftReg}
 use Rattle.arm.specs.Class.{classNo}
 use Rattle.arm.specs.Diagram
-use Rattle.arm.specs.Diagram.{Encoding, fits, fitting, firstOr, bits, view, never}
+use Rattle.arm.specs.Diagram.{Encoding, fits, fitting, firstOr, bits, view, unconditional}
 use Rattle.arm.specs.Encodings.{encodings, undefineds, encodingOn, encodingOf}
 use Rattle.arm.specs.Deciding.{viewAt}
 use Rattle.arm.specs.Naming.{shiftName, movName, stmName, ldmName, is, nameOf, classOf}
 use Rattle.arm.specs.Operands.{op2Of}
-use Rattle.arm.specs.Manual.{Fits, Undefined, OfManual, Added, Named}
+use Rattle.arm.specs.Manual.{Fits, Undefined, OfManual, Added, Named, Left, by-diagram, by-text, by-absence}
 use Rattle.arm.proofs.Numbers.{same-number}
-use Rattle.arm.proofs.Reduce.{deciding, encodings-decided, never-below}
+use Rattle.arm.proofs.Reduce.{encodings-decided, unconditional-below}
 use Rattle.arm.proofs.Sweep.{steps, steps-fit, and, and-left, and-right, every, every-at, rest}
+
+-- ---- every diagram has a column for the condition and one for each of bits 27 to 0
+
+abbrev whole : List Encoding → Bool
+whole [] = true
+whole (e ∷ es) = and (eqb (length (e .at)) 29) (whole es)
+
+pub whole-encodings : T (whole encodings)
+unfolding encodings Diagram.cond Diagram.uncond
+whole-encodings = tt
+
+pub whole-undefineds : T (whole undefineds)
+unfolding undefineds Diagram.cond
+whole-undefineds = tt
 
 -- ---- at most one class fits
 
@@ -36,7 +51,7 @@ all-alike [] = true
 all-alike (c ∷ cs) = alike c cs
 
 alike-cells : ℕ → ℕ → Bool
-unfolding bits encodings fitting fits Diagram.cond Diagram.nv classNo
+unfolding bits encodings fitting fits Diagram.cond Diagram.uncond classNo
 alike-cells nv op =
     let es = steps (nv ∷ bits 8 op) encodings in
     every 2 0 (λ odd. every 16 0 (λ low. all-alike (fitting es (rest odd low))))
@@ -58,7 +73,7 @@ alike-at nv op odd low v o d l =
 alike-word : (w : ℕ) → T (all-alike (fitting encodings (view w)))
 alike-word w =
     rw (encodings-decided w)
-    (alike-at (never w) (w / 1048576 % 256) (w / 4096 % 2) (w / 16 % 16) (never-below w) (omega arith) (omega arith) (omega arith))
+    (alike-at (unconditional w) (w / 1048576 % 256) (w / 4096 % 2) (w / 16 % 16) (unconditional-below w) (omega arith) (omega arith) (omega arith))
 
 alike-member : (c k : Class) (cs : List Class) → T (alike c cs) → List·Memᴰ k cs → k ≡ c
 alike-member c k (d ∷ cs) t (List·Memᴰ·head e) = e ∙ same-number d c (and-left (eqb (classNo d) (classNo c)) (alike c cs) t)
@@ -107,7 +122,7 @@ manual [] = true
 manual (e ∷ es) = and (ltb (classNo (e .class)) 67) (manual es)
 
 manual-encodings : T (manual encodings)
-unfolding encodings classNo Diagram.cond Diagram.nv
+unfolding encodings classNo Diagram.cond Diagram.uncond
 manual-encodings = tt
 
 manual-fitting : (v : List ℕ) (es : List Encoding) → T (manual es) → (k : Class) → List·Memᴰ k (fitting es v) → classNo k < 67
@@ -292,10 +307,27 @@ class-illegal w e = go (kinds w)
     go (inl m) = absurd (illegal-apart (m .0) (fits-manual w (m .0) (m .1 .0)) (sym (encoding-named w (m .0) (m .1 .0) (m .1 .1)) ∙ same))
     go (inr n) = n
 
--- The names that document 01 adds: exactly where a rule moves the word to them.
-pub class-added : (w : ℕ) (k : Class) → Added k → classOf w ≡ k → (j : Class) × (Fits w j × (Undefined w → ⊥) × (nameOf j w ≡ k))
-class-added w k a e = go (kinds w)
+-- Exactly one class is left for each word, and it is the word's class.
+pub left-class : (w : ℕ) (k : Class) → Left w k → classOf w ≡ k
+left-class w k (by-diagram j m n e) = class-by-rule w j m n ∙ e
+left-class w k (by-text u e) = illegal-class w (inl u) ∙ sym e
+left-class w k (by-absence n e) = illegal-class w (inr n) ∙ sym e
+
+pub class-left : (w : ℕ) (k : Class) → classOf w ≡ k → Left w k
+class-left w k e = go (kinds w)
   where
-    go : ((j : Class) × (Fits w j × (Undefined w → ⊥))) ⊎ (Undefined w ⊎ ((j : Class) → Fits w j → ⊥)) → (j : Class) × (Fits w j × (Undefined w → ⊥) × (nameOf j w ≡ k))
-    go (inl m) = (m .0, (m .1 .0, m .1 .1, sym (class-by-rule w (m .0) (m .1 .0) (m .1 .1)) ∙ e))
-    go (inr n) = absurd (illegal-added (subst (λ (c : Class). Added c) (sym e ∙ illegal-class w n) a))
+    go : ((j : Class) × (Fits w j × (Undefined w → ⊥))) ⊎ (Undefined w ⊎ ((j : Class) → Fits w j → ⊥)) → Left w k
+    go (inl m) = by-diagram (m .0) (m .1 .0) (m .1 .1) (sym (class-by-rule w (m .0) (m .1 .0) (m .1 .1)) ∙ e)
+    go (inr (inl u)) = by-text u (sym e ∙ illegal-class w (inl u))
+    go (inr (inr n)) = by-absence n (sym e ∙ illegal-class w (inr n))
+
+-- ---- the diagrams leave out no instruction
+
+abbrev has : ℕ → List Encoding → Bool
+has n [] = false
+has n (e ∷ es) = elim (eqb (classNo (e .class)) n) [ true ↦ true | false ↦ has n es ]
+
+-- each of the manual's classes has a diagram
+pub covered : T (every 67 0 (λ n. has n encodings))
+unfolding encodings classNo Diagram.cond Diagram.uncond
+covered = tt

@@ -1,5 +1,5 @@
 -- The deciding fields of a word settle its encoding: every other column is free in every diagram.
-use mathlib.Core.Path.{_≡_, refl, ap, ap₂, sym, _∙_}
+use mathlib.Core.Path.{_≡_, refl, ap, _∙_}
 use mathlib.Core.Bool.{Bool, true, false}
 use mathlib.Core.List.{List, [], _∷_}
 use Prim.Native.Nat.{ℕ, _/_, _%_, _<_}
@@ -7,9 +7,8 @@ use native.Mathlib.Omega.{arith}
 use lib.Dec.{T, eqb}
 use borrow.Author.Tests.{eq-eqb, ne-eqb}
 use Rattle.arm.specs.declared.Class.{Class}
-use Rattle.arm.specs.declared.Class.the-variants.{Illegal}
 use Rattle.arm.specs.Diagram
-use Rattle.arm.specs.Diagram.{Column, fixed, free, Encoding, fits, fitting, firstOr, bits, never, view}
+use Rattle.arm.specs.Diagram.{Column, fixed, free, Encoding, fits, fitting, bits, unconditional, view}
 use Rattle.arm.specs.Encodings.{encodings, undefineds, encodingOn, encodingOf}
 use Rattle.arm.specs.Deciding.{viewAt, encodingAt}
 
@@ -69,12 +68,12 @@ decisive =
     ∷ false ∷ false ∷ false ∷ false ∷ true ∷ true ∷ true ∷ true
     ∷ false ∷ false ∷ false ∷ false ∷ []
 
-view-same : (w : ℕ) → Agree decisive (view w) (viewAt (never w) (w / 1048576 % 256) (w / 4096 % 2) (w / 16 % 16))
+view-same : (w : ℕ) → Agree decisive (view w) (viewAt (unconditional w) (w / 1048576 % 256) (w / 4096 % 2) (w / 16 % 16))
 unfolding view viewAt bits decisive
 view-same w = omega arith
 
 encodings-within : T (all-within decisive encodings)
-unfolding decisive encodings Diagram.cond Diagram.nv
+unfolding decisive encodings Diagram.cond Diagram.uncond
 encodings-within = tt
 
 undefineds-within : T (all-within decisive undefineds)
@@ -83,7 +82,7 @@ undefineds-within = tt
 
 -- the view of the word that has only the deciding fields of w
 abbrev pub deciding : ℕ → List ℕ
-deciding w = viewAt (never w) (w / 1048576 % 256) (w / 4096 % 2) (w / 16 % 16)
+deciding w = viewAt (unconditional w) (w / 1048576 % 256) (w / 4096 % 2) (w / 16 % 16)
 
 pub encodings-decided : (w : ℕ) → fitting encodings (view w) ≡ fitting encodings (deciding w)
 encodings-decided w = fitting-same decisive (view w) (deciding w) (view-same w) encodings encodings-within
@@ -91,21 +90,21 @@ encodings-decided w = fitting-same decisive (view w) (deciding w) (view-same w) 
 pub undefineds-decided : (w : ℕ) → fitting undefineds (view w) ≡ fitting undefineds (deciding w)
 undefineds-decided w = fitting-same decisive (view w) (deciding w) (view-same w) undefineds undefineds-within
 
-pub reduced : (w : ℕ) → encodingOf w ≡ encodingAt (never w) (w / 1048576 % 256) (w / 4096 % 2) (w / 16 % 16)
+pub reduced : (w : ℕ) → encodingOf w ≡ encodingAt (unconditional w) (w / 1048576 % 256) (w / 4096 % 2) (w / 16 % 16)
 unfolding encodingOf encodingAt encodingOn
 reduced w = rw (encodings-decided w, undefineds-decided w)
 
-pub never-yes : (w : ℕ) → w / 268435456 ≡ 15 → never w ≡ 1
-unfolding never
-never-yes w e = rw (eq-eqb (w / 268435456) 15 e, never)
+pub unconditional-yes : (w : ℕ) → w / 268435456 ≡ 15 → unconditional w ≡ 1
+unfolding unconditional
+unconditional-yes w e = rw (eq-eqb (w / 268435456) 15 e, unconditional)
 
-pub never-no : (w : ℕ) → (w / 268435456 ≡ 15 → ⊥) → never w ≡ 0
-unfolding never
-never-no w n = rw (ne-eqb (w / 268435456) 15 n, never)
+pub unconditional-no : (w : ℕ) → (w / 268435456 ≡ 15 → ⊥) → unconditional w ≡ 0
+unfolding unconditional
+unconditional-no w n = rw (ne-eqb (w / 268435456) 15 n, unconditional)
 
-pub never-below : (w : ℕ) → never w < 2
-unfolding never
-never-below w = go (eqb (w / 268435456) 15)
+pub unconditional-below : (w : ℕ) → unconditional w < 2
+unfolding unconditional
+unconditional-below w = go (eqb (w / 268435456) 15)
   where
     go : (t : Bool) → elim t as (λ _. ℕ) [ true ↦ 1 | false ↦ 0 ] < 2
     go true = omega arith

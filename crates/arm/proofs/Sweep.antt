@@ -120,7 +120,7 @@ abbrev rows : Region → Class → ℕ → List Encoding → List Encoding → B
 rows r k op es us = every 2 0 (λ odd. every 16 0 (λ low. is k (inside (r op odd low)) (narrowed es us (rest odd low))))
 
 unfoldable pub passes : ℕ → ℕ → ℕ → Region → Class → Bool
-unfolding bits encodings undefineds fitting firstOr fits classNo Diagram.cond Diagram.nv
+unfolding bits encodings undefineds fitting firstOr fits classNo Diagram.cond Diagram.uncond
 passes nv a n r k = every n a (λ op. rows r k op (steps (nv ∷ bits 8 op) encodings) (steps (nv ∷ bits 8 op) undefineds))
 
 -- what a region asks of the fields

@@ -1,13 +1,11 @@
 -- Encoding diagrams as the manual prints them, and what it means that one fits a word.
 use Prim.Native.Nat.{ℕ, zero, suc, _/_, _%_, _^_}
-use Prim.Native.Char.{Char, code}
+use Prim.Native.Char.{code}
 use Prim.Native.String.{String}
-use Prim.Native.String as Text
 use mathlib.Core.Bool.{Bool, true, false}
-use mathlib.Core.List.{List, [], _∷_, _++_}
+use mathlib.Core.List.{List, [], _∷_}
 use lib.Dec.{eqb}
 use Rattle.arm.specs.declared.Class.{Class}
-use Rattle.arm.specs.declared.Class.the-variants.{Illegal}
 
 -- A column of a diagram: a bit that is fixed, or one that belongs to a field.
 pub data Column : Type 0 where
@@ -41,9 +39,9 @@ unfolding columns
 cond k s = record { class = k; at = fixed 0 ∷ columns s }
 
 -- a page whose diagram begins with 1111
-unfoldable pub nv : Class → String → Encoding
+unfoldable pub uncond : Class → String → Encoding
 unfolding columns
-nv k s = record { class = k; at = fixed 1 ∷ columns s }
+uncond k s = record { class = k; at = fixed 1 ∷ columns s }
 
 -- the n low bits of a number, the highest first
 unfoldable pub bits : ℕ → ℕ → List ℕ
@@ -51,13 +49,13 @@ bits zero w = []
 bits (suc n) w = w / 2 ^ n % 2 ∷ bits n w
 
 -- 1 where the condition field is 1111, else 0
-unfoldable pub never : ℕ → ℕ
-never w = elim (eqb (w / 2 ^ 28) 15) [ true ↦ 1 | false ↦ 0 ]
+unfoldable pub unconditional : ℕ → ℕ
+unconditional w = elim (eqb (w / 2 ^ 28) 15) [ true ↦ 1 | false ↦ 0 ]
 
 -- a word as an encoding's columns look at it
 unfoldable pub view : ℕ → List ℕ
-unfolding bits never
-view w = never w ∷ bits 28 w
+unfolding bits unconditional
+view w = unconditional w ∷ bits 28 w
 
 -- every fixed column holds its bit
 unfoldable pub fits : List Column → List ℕ → Bool
@@ -73,7 +71,7 @@ unfolding fits
 fitting [] v = []
 fitting (e ∷ es) v = elim (fits (e .at) v) [ true ↦ e .class ∷ fitting es v | false ↦ fitting es v ]
 
--- the first class of a list; Illegal where there is none
+-- the first class of a list; k where there is none
 unfoldable pub firstOr : Class → List Class → Class
 firstOr k [] = k
 firstOr k (c ∷ cs) = c

@@ -1,92 +1,28 @@
 -- The manual's ARM instructions (ARM DDI 0100E: chapter A4.1, and A10 for the enhanced DSP extension), page by page in its order.
--- Each diagram stands for bits 27 to 0, with a letter for each bit of a field: n, d, s and m are registers, h and l the halves of a
--- result or of an offset, i an immediate, r its rotation, a a shift amount, k a shift kind, t a register list, c a coprocessor,
--- p and q its opcodes, f a field mask, z what should be zero and o what should be one; a capital letter is the manual's own.
--- A word that breaks "should be" is UNPREDICTABLE and is read by its fields: z and o are as free as any other letter.
+-- Each diagram stands for bits 27 to 0, with a letter for each bit of a field: n, d, s and m are registers, h and w the registers of the
+-- high and the low word of a result, i an immediate, r its rotation, a a shift amount, k a shift kind, t a register list, c a
+-- coprocessor, p and q its opcodes, f a field mask, x and y the choice of a halfword; a capital letter is the manual's own.
+-- Bits that should be one are +, bits that should be zero -. A word that breaks this is UNPREDICTABLE and is read by its fields, so
+-- + and - are as free as a letter.
 use Prim.Native.String.{String, _++_}
-use mathlib.Core.Bool.{Bool, true, false}
 use mathlib.Core.List.{List, [], _∷_}
 use mathlib.Core.List as List
 use Prim.Native.Nat.{ℕ}
 use Rattle.arm.specs.declared.Class.{Class}
-use Rattle.arm.specs.declared.Class.the-variants.{
-  Adc,
-  Add,
-  And,
-  B,
-  Bic,
-  Bkpt,
-  Bl,
-  Blx1,
-  Blx2,
-  Bx,
-  Cdp,
-  Clz,
-  Cmn,
-  Cmp,
-  Eor,
-  Ldc,
-  Ldm,
-  Ldr,
-  Ldrb,
-  Ldrbt,
-  Ldrd,
-  Ldrh,
-  Ldrsb,
-  Ldrsh,
-  Ldrt,
-  Mcr,
-  Mcrr,
-  Mla,
-  Mov,
-  Mrc,
-  Mrrc,
-  Mrs,
-  Msr,
-  Mul,
-  Mvn,
-  Orr,
-  Pld,
-  Qadd,
-  Qdadd,
-  Qdsub,
-  Qsub,
-  Rsb,
-  Rsc,
-  Sbc,
-  Smlal,
-  Smlalxy,
-  Smlawy,
-  Smlaxy,
-  Smull,
-  Smulwy,
-  Smulxy,
-  Stc,
-  Stm,
-  Str,
-  Strb,
-  Strbt,
-  Strd,
-  Strh,
-  Strt,
-  Sub,
-  Swi,
-  Swp,
-  Swpb,
-  Teq,
-  Tst,
-  Umlal,
-  Umull,
-  Illegal,
-}
-use Rattle.arm.specs.Diagram.{Encoding, cond, nv, fitting, firstOr, view}
+use Rattle.arm.specs.declared.Class.the-variants.{Adc, Add, And, B, Bic, Bkpt, Bl, Blx1, Blx2, Bx, Cdp, Clz, Cmn, Cmp, Eor, Ldc}
+use Rattle.arm.specs.declared.Class.the-variants.{Ldm, Ldr, Ldrb, Ldrbt, Ldrd, Ldrh, Ldrsb, Ldrsh, Ldrt, Mcr, Mcrr, Mla, Mov, Mrc}
+use Rattle.arm.specs.declared.Class.the-variants.{Mrrc, Mrs, Msr, Mul, Mvn, Orr, Pld, Qadd, Qdadd, Qdsub, Qsub, Rsb, Rsc, Sbc}
+use Rattle.arm.specs.declared.Class.the-variants.{Smlal, Smlalxy, Smlawy, Smlaxy, Smull, Smulwy, Smulxy, Stc, Stm, Str, Strb}
+use Rattle.arm.specs.declared.Class.the-variants.{Strbt, Strd, Strh, Strt, Sub, Swi, Swp, Swpb, Teq, Tst, Umlal, Umull, Illegal}
+use Rattle.arm.specs.Diagram.{Encoding, cond, uncond, fitting, firstOr, view}
 
--- A5.1, addressing mode 1: an immediate; a register shifted by an immediate; a register shifted by a register.
+-- A5.1, addressing mode 1: an immediate; a register shifted by an immediate; a register shifted by a register. The text has the
+-- opcode, S, Rn and Rd.
 mode1 : Class → String → List Encoding
 mode1 k opcode =
-    cond k ("001" ++ opcode ++ "nnnn dddd rrrr iiiiiiii")
-    ∷ cond k ("000" ++ opcode ++ "nnnn dddd aaaa a kk 0 mmmm")
-    ∷ cond k ("000" ++ opcode ++ "nnnn dddd ssss 0 kk 1 mmmm")
+    cond k ("001" ++ opcode ++ "rrrr iiiiiiii")
+    ∷ cond k ("000" ++ opcode ++ "aaaa a kk 0 mmmm")
+    ∷ cond k ("000" ++ opcode ++ "ssss 0 kk 1 mmmm")
     ∷ []
 
 -- A5.2, addressing mode 2: an immediate or a shifted register, each as an offset or pre-indexed (P = 1) and post-indexed
@@ -106,12 +42,14 @@ mode2T k b l =
     ∷ cond k ("011 0 U" ++ b ++ "1" ++ l ++ "nnnn dddd aaaa a kk 0 mmmm")
     ∷ []
 
--- A5.3, addressing mode 3: an immediate in two halves (I = 1) or a register (I = 0, its high half should be zero). P = 0 with
--- W = 1 is UNPREDICTABLE.
+-- A5.3, addressing mode 3: an immediate in two halves, or a register. P = 0 with W = 1 is UNPREDICTABLE.
 mode3 : Class → String → String → List Encoding
-mode3 k l sh = cond k ("000 P U I W" ++ l ++ "nnnn dddd hhhh 1" ++ sh ++ "1 llll") ∷ []
+mode3 k l sh =
+    cond k ("000 P U 1 W" ++ l ++ "nnnn dddd iiii 1" ++ sh ++ "1 iiii")
+    ∷ cond k ("000 P U 0 W" ++ l ++ "nnnn dddd ---- 1" ++ sh ++ "1 mmmm")
+    ∷ []
 
--- A5.5, addressing mode 5: an offset or pre-indexed; post-indexed; unindexed (U = 1, since U = 0 there is no addressing mode).
+-- A5.5, addressing mode 5: an offset or pre-indexed; post-indexed; unindexed, which has U = 1 only.
 mode5 : (Class → String → Encoding) → Class → String → List Encoding
 mode5 space k l =
     space k ("110 1 U N W" ++ l ++ "nnnn dddd cccc iiiiiiii")
@@ -126,32 +64,32 @@ pages : List (List Encoding)
 unfolding mode1 mode2 mode2T mode3 mode5 page
 pages =
     -- ADC, ADD, AND
-    mode1 Adc "0101 S"
-    ∷ mode1 Add "0100 S"
-    ∷ mode1 And "0000 S"
+    mode1 Adc "0101 S nnnn dddd"
+    ∷ mode1 Add "0100 S nnnn dddd"
+    ∷ mode1 And "0000 S nnnn dddd"
     -- B, BL
     ∷ page (cond B "1010 iiiiiiiiiiiiiiiiiiiiiiii")
     ∷ page (cond Bl "1011 iiiiiiiiiiiiiiiiiiiiiiii")
     -- BIC
-    ∷ mode1 Bic "1110 S"
+    ∷ mode1 Bic "1110 S nnnn dddd"
     -- BKPT: a condition other than AL is UNPREDICTABLE
     ∷ page (cond Bkpt "0001 0010 iiiiiiiiiiii 0111 iiii")
     -- BLX (1), BLX (2), BX
-    ∷ page (nv Blx1 "101 H iiiiiiiiiiiiiiiiiiiiiiii")
-    ∷ page (cond Blx2 "0001 0010 oooo oooo oooo 0011 mmmm")
-    ∷ page (cond Bx "0001 0010 oooo oooo oooo 0001 mmmm")
+    ∷ page (uncond Blx1 "101 H iiiiiiiiiiiiiiiiiiiiiiii")
+    ∷ page (cond Blx2 "0001 0010 ++++ ++++ ++++ 0011 mmmm")
+    ∷ page (cond Bx "0001 0010 ++++ ++++ ++++ 0001 mmmm")
     -- CDP, CDP2
     ∷ page (cond Cdp "1110 pppp nnnn dddd cccc qqq 0 mmmm")
-    ∷ page (nv Cdp "1110 pppp nnnn dddd cccc qqq 0 mmmm")
+    ∷ page (uncond Cdp "1110 pppp nnnn dddd cccc qqq 0 mmmm")
     -- CLZ
-    ∷ page (cond Clz "0001 0110 oooo dddd oooo 0001 mmmm")
+    ∷ page (cond Clz "0001 0110 ++++ dddd ++++ 0001 mmmm")
     -- CMN, CMP, EOR
-    ∷ mode1 Cmn "1011 1"
-    ∷ mode1 Cmp "1010 1"
-    ∷ mode1 Eor "0001 S"
+    ∷ mode1 Cmn "1011 1 nnnn ----"
+    ∷ mode1 Cmp "1010 1 nnnn ----"
+    ∷ mode1 Eor "0001 S nnnn dddd"
     -- LDC, LDC2
     ∷ mode5 cond Ldc "1"
-    ∷ mode5 nv Ldc "1"
+    ∷ mode5 uncond Ldc "1"
     -- LDM (1); LDM (2) and LDM (3), which the list's bit for PC tells apart (W = 1 in LDM (2) is UNPREDICTABLE)
     ∷ page (cond Ldm "100 P U 0 W 1 nnnn tttttttttttttttt")
     ∷ page (cond Ldm "100 P U 1 W 1 nnnn tttttttttttttttt")
@@ -168,54 +106,54 @@ pages =
     ∷ mode2T Ldrt "0" "1"
     -- MCR, MCR2
     ∷ page (cond Mcr "1110 ppp 0 nnnn dddd cccc qqq 1 mmmm")
-    ∷ page (nv Mcr "1110 ppp 0 nnnn dddd cccc qqq 1 mmmm")
+    ∷ page (uncond Mcr "1110 ppp 0 nnnn dddd cccc qqq 1 mmmm")
     -- MCRR (A10)
     ∷ page (cond Mcrr "1100 0100 nnnn dddd cccc pppp mmmm")
     -- MLA
     ∷ page (cond Mla "0000 001 S dddd nnnn ssss 1001 mmmm")
     -- MOV
-    ∷ mode1 Mov "1101 S"
+    ∷ mode1 Mov "1101 S ---- dddd"
     -- MRC, MRC2
     ∷ page (cond Mrc "1110 ppp 1 nnnn dddd cccc qqq 1 mmmm")
-    ∷ page (nv Mrc "1110 ppp 1 nnnn dddd cccc qqq 1 mmmm")
+    ∷ page (uncond Mrc "1110 ppp 1 nnnn dddd cccc qqq 1 mmmm")
     -- MRRC (A10)
     ∷ page (cond Mrrc "1100 0101 nnnn dddd cccc pppp mmmm")
     -- MRS: bits 7 to 4 should be zero, and tell it from the control extension space's other instructions
-    ∷ page (cond Mrs "0001 0 R 00 oooo dddd zzzz 0000 zzzz")
+    ∷ page (cond Mrs "0001 0 R 00 ++++ dddd ---- 0000 ----")
     -- MSR with an immediate, and with a register: bits 7 to 4 as for MRS
-    ∷ page (cond Msr "0011 0 R 10 ffff oooo rrrr iiiiiiii")
-    ∷ page (cond Msr "0001 0 R 10 ffff oooo zzzz 0000 mmmm")
+    ∷ page (cond Msr "0011 0 R 10 ffff ++++ rrrr iiiiiiii")
+    ∷ page (cond Msr "0001 0 R 10 ffff ++++ ---- 0000 mmmm")
     -- MUL
-    ∷ page (cond Mul "0000 000 S dddd zzzz ssss 1001 mmmm")
+    ∷ page (cond Mul "0000 000 S dddd ---- ssss 1001 mmmm")
     -- MVN, ORR
-    ∷ mode1 Mvn "1111 S"
-    ∷ mode1 Orr "1100 S"
+    ∷ mode1 Mvn "1111 S ---- dddd"
+    ∷ mode1 Orr "1100 S nnnn dddd"
     -- PLD (A10): P = 0 or W = 1 is UNPREDICTABLE
-    ∷ page (nv Pld "010 P U 1 W 1 nnnn oooo iiiiiiiiiiii")
-    ∷ page (nv Pld "011 P U 1 W 1 nnnn oooo aaaa a kk 0 mmmm")
+    ∷ page (uncond Pld "010 P U 1 W 1 nnnn ++++ iiiiiiiiiiii")
+    ∷ page (uncond Pld "011 P U 1 W 1 nnnn ++++ aaaa a kk 0 mmmm")
     -- QADD, QDADD, QDSUB, QSUB (A10)
-    ∷ page (cond Qadd "0001 0000 nnnn dddd zzzz 0101 mmmm")
-    ∷ page (cond Qdadd "0001 0100 nnnn dddd zzzz 0101 mmmm")
-    ∷ page (cond Qdsub "0001 0110 nnnn dddd zzzz 0101 mmmm")
-    ∷ page (cond Qsub "0001 0010 nnnn dddd zzzz 0101 mmmm")
+    ∷ page (cond Qadd "0001 0000 nnnn dddd ---- 0101 mmmm")
+    ∷ page (cond Qdadd "0001 0100 nnnn dddd ---- 0101 mmmm")
+    ∷ page (cond Qdsub "0001 0110 nnnn dddd ---- 0101 mmmm")
+    ∷ page (cond Qsub "0001 0010 nnnn dddd ---- 0101 mmmm")
     -- RSB, RSC, SBC
-    ∷ mode1 Rsb "0011 S"
-    ∷ mode1 Rsc "0111 S"
-    ∷ mode1 Sbc "0110 S"
+    ∷ mode1 Rsb "0011 S nnnn dddd"
+    ∷ mode1 Rsc "0111 S nnnn dddd"
+    ∷ mode1 Sbc "0110 S nnnn dddd"
     -- SMLAL
-    ∷ page (cond Smlal "0000 111 S hhhh llll ssss 1001 mmmm")
+    ∷ page (cond Smlal "0000 111 S hhhh wwww ssss 1001 mmmm")
     -- SMLAL<x><y>, SMLAW<y>, SMLA<x><y> (A10)
-    ∷ page (cond Smlalxy "0001 0100 hhhh llll ssss 1yx0 mmmm")
+    ∷ page (cond Smlalxy "0001 0100 hhhh wwww ssss 1yx0 mmmm")
     ∷ page (cond Smlawy "0001 0010 dddd nnnn ssss 1y00 mmmm")
     ∷ page (cond Smlaxy "0001 0000 dddd nnnn ssss 1yx0 mmmm")
     -- SMULL
-    ∷ page (cond Smull "0000 110 S hhhh llll ssss 1001 mmmm")
+    ∷ page (cond Smull "0000 110 S hhhh wwww ssss 1001 mmmm")
     -- SMULW<y>, SMUL<x><y> (A10)
-    ∷ page (cond Smulwy "0001 0010 dddd zzzz ssss 1y10 mmmm")
-    ∷ page (cond Smulxy "0001 0110 dddd zzzz ssss 1yx0 mmmm")
+    ∷ page (cond Smulwy "0001 0010 dddd ---- ssss 1y10 mmmm")
+    ∷ page (cond Smulxy "0001 0110 dddd ---- ssss 1yx0 mmmm")
     -- STC, STC2
     ∷ mode5 cond Stc "0"
-    ∷ mode5 nv Stc "0"
+    ∷ mode5 uncond Stc "0"
     -- STM (1); STM (2), where W = 1 is UNPREDICTABLE
     ∷ page (cond Stm "100 P U 0 W 0 nnnn tttttttttttttttt")
     ∷ page (cond Stm "100 P U 1 W 0 nnnn tttttttttttttttt")
@@ -228,18 +166,18 @@ pages =
     ∷ mode3 Strh "0" "01"
     ∷ mode2T Strt "0" "0"
     -- SUB
-    ∷ mode1 Sub "0010 S"
+    ∷ mode1 Sub "0010 S nnnn dddd"
     -- SWI
     ∷ page (cond Swi "1111 iiiiiiiiiiiiiiiiiiiiiiii")
     -- SWP, SWPB
-    ∷ page (cond Swp "0001 0000 nnnn dddd zzzz 1001 mmmm")
-    ∷ page (cond Swpb "0001 0100 nnnn dddd zzzz 1001 mmmm")
+    ∷ page (cond Swp "0001 0000 nnnn dddd ---- 1001 mmmm")
+    ∷ page (cond Swpb "0001 0100 nnnn dddd ---- 1001 mmmm")
     -- TEQ, TST
-    ∷ mode1 Teq "1001 1"
-    ∷ mode1 Tst "1000 1"
+    ∷ mode1 Teq "1001 1 nnnn ----"
+    ∷ mode1 Tst "1000 1 nnnn ----"
     -- UMLAL, UMULL
-    ∷ page (cond Umlal "0000 101 S hhhh llll ssss 1001 mmmm")
-    ∷ page (cond Umull "0000 100 S hhhh llll ssss 1001 mmmm")
+    ∷ page (cond Umlal "0000 101 S hhhh wwww ssss 1001 mmmm")
+    ∷ page (cond Umull "0000 100 S hhhh wwww ssss 1001 mmmm")
     ∷ []
 
 -- one list of what stands in several
@@ -254,9 +192,10 @@ encodings = joined pages
 
 -- Words that fit a diagram but that the page's text calls UNDEFINED. LDRD and STRD (A10): an odd Rd.
 unfoldable pub undefineds : List Encoding
-undefineds = cond Illegal "000 P U I W 0 nnnn ddd1 hhhh 11S1 llll" ∷ []
+undefineds = cond Illegal "000 P U I W 0 nnnn ddd1 iiii 11x1 iiii" ∷ []
 
--- What the manual calls the word that is seen so: UNDEFINED by the text, the instruction whose diagram fits, or nothing.
+-- What the manual calls the word that is seen so: UNDEFINED by the text, the instruction whose diagram fits (the first in the list; by
+-- `one-class` of proofs/ManualLaws.antt there is no other), or nothing.
 unfoldable pub encodingOn : List ℕ → Class
 encodingOn v = firstOr (firstOr Illegal (fitting encodings v)) (fitting undefineds v)
 

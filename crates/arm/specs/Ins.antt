@@ -1,13 +1,19 @@
 -- A decoded word, field by field.
 use Prim.Native.Nat.{ℕ, _/_, _%_, _^_}
-use lib.Dec.{eqb}
+use mathlib.Core.Bool.{Bool}
+use lib.Dec.{eqb, ltb}
 use Rattle.arm.specs.declared.Ins.{Ins}
 use Rattle.arm.specs.Fields.{bit, rdOf, rnOf, rmOf}
 use Rattle.arm.specs.Operands.{op2Of, addrOf, modeOf, targetOf}
 use Rattle.arm.specs.Sets.{formOf, usesOf, defsOf, flagsOf}
+use Rattle.arm.specs.Encodings.{encodingOf}
 use Rattle.arm.specs.Naming.{classOf}
 
--- the instruction that word w is at an address
+-- a condition field other than 1110 and 1111
+abbrev pub isConditional : ℕ → Bool
+isConditional c = ltb c 14
+
+-- the instruction that word w is at an address; sets and flag are those of the manual's instruction, whatever name 01 gives it
 unfoldable pub decodeOf : ℕ → ℕ → Ins
 decodeOf w address =
     record {
@@ -22,7 +28,7 @@ decodeOf w address =
       mode = modeOf w;
       regs = w % 2 ^ 16;
       target = targetOf w address;
-      uses = usesOf (formOf (classOf w)) w;
-      defs = defsOf (formOf (classOf w)) w;
-      «updates_condition_flags» = flagsOf (formOf (classOf w)) w;
+      uses = usesOf (formOf (encodingOf w)) w;
+      defs = defsOf (formOf (encodingOf w)) w;
+      «updates_condition_flags» = flagsOf (formOf (encodingOf w)) w;
     }

@@ -13,7 +13,7 @@ use Rattle.arm.specs.Naming.{nameOf}
 abbrev pub Fits : ℕ → Class → Type 0
 Fits w k = List·Memᴰ k (fitting encodings (view w))
 
--- the text of a page whose diagram fits calls the word UNDEFINED
+-- a page's text calls the word UNDEFINED
 abbrev pub Undefined : ℕ → Type 0
 Undefined w = List·Memᴰ Illegal (fitting undefineds (view w))
 
@@ -30,3 +30,10 @@ pub record Named (w : ℕ) (k : Class) : Type 0 where
   pub fits : Fits w k
   pub defined : Undefined w → ⊥
   pub kept : nameOf k w ≡ k
+
+-- Class k is left for the word: a diagram fits, the text does not call the word UNDEFINED and document 01's rules take the diagram's
+-- class to k; or nothing fits or the text calls it UNDEFINED, and k is Illegal.
+pub data Left (w : ℕ) (k : Class) : Type 0 where
+  by-diagram : (j : Class) → Fits w j → (Undefined w → ⊥) → nameOf j w ≡ k → Left w k
+  by-text : Undefined w → k ≡ Illegal → Left w k
+  by-absence : ((j : Class) → Fits w j → ⊥) → k ≡ Illegal → Left w k

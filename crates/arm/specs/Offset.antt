@@ -1,8 +1,9 @@
 -- The signed offsets of branches and loads, and the address that a branch goes to.
-use Prim.Native.Nat.{ℕ, _+_, _-_, _/_, _%_}
+use Prim.Native.Nat.{ℕ, _+_, _-_, _%_}
 use mathlib.Core.Bool.{true, false}
 use lib.Dec.{ltb, eqb}
 use lib.IntN.{ℤ, pos, negsuc, negℤ, _+ℤ_, _-ℤ_, _*ℤ_}
+use Rattle.arm.specs.Fields.{bit}
 
 -- x read as two's complement; half is the weight of the sign bit
 unfoldable pub signed : ℕ → ℕ → ℤ
@@ -19,7 +20,7 @@ branchOffset w = signed 0x80_0000 (w % 0x100_0000)
 
 -- the offset of a load or store word, in bytes: bits 11 to 0, added where bit 23 (U) is set and else subtracted
 unfoldable pub loadOffset : ℕ → ℤ
-loadOffset w = elim (eqb (w / 0x80_0000 % 2) 1) [ true ↦ pos (w % 4096) | false ↦ negℤ (pos (w % 4096)) ]
+loadOffset w = elim (eqb (bit 23 w) 1) [ true ↦ pos (w % 4096) | false ↦ negℤ (pos (w % 4096)) ]
 
 -- where a branch at address a goes: z words past a + 8, the value that r15 reads as, and extra bytes more
 unfoldable pub destination : ℕ → ℤ → ℕ → ℕ

@@ -20,6 +20,8 @@ pub fn encoding(word: u32) -> Class
     }
 }
 
+// Condition 1111: PLD, BLX with an immediate and the coprocessor forms ending in 2, which have neither an unindexed form with U = 0
+// (0xC0, 0xC1) nor a transfer of two registers (0xC4, 0xC5).
 fn unconditional(op: u32, low: u32) -> Class
     requires { ⌜ (op < 256) × (low < 16) ⌝ }
     ensures { λ r. ⌜ ((odd : ℕ) → odd < 2 → r ≡ encodingAt 1 op odd low) ⌝ }
@@ -42,6 +44,7 @@ fn unconditional(op: u32, low: u32) -> Class
     }
 }
 
+// By bits 27 to 25, the manual's first cut. A register offset (0x60 to 0x7F) has bit 4 clear.
 fn conditional(op: u32, odd: u32, low: u32) -> Class
     requires { ⌜ (op < 256) × (odd < 2) × (low < 16) ⌝ }
     ensures { λ r. ⌜ r ≡ encodingAt 0 op odd low ⌝ }
@@ -110,7 +113,7 @@ fn immediates(op: u32) -> Class
     }
 }
 
-// By the opcode and S, bits 24 to 20; the same with a register and with an immediate (bit 25).
+// By the opcode and S, bits 24 to 20; the same with a register and with an immediate (bit 25). A compare comes here with S set.
 fn data_processing(n: u32) -> Class
     requires { ⌜ (n < 32) × (n ≡ 16 → ⊥) × (n ≡ 18 → ⊥) × (n ≡ 20 → ⊥) × (n ≡ 22 → ⊥) ⌝ }
     ensures register { λ r. ⌜ ((odd low : ℕ) → odd < 2 → low < 16 → low / 8 + low % 2 < 2 → r ≡ encodingAt 0 n odd low) ⌝ }
@@ -195,6 +198,7 @@ fn control3(low: u32) -> Class
     }
 }
 
+// Multiplies by bits 23 to 21, and the swaps.
 fn multiply(op: u32) -> Class
     requires { ⌜ op < 32 ⌝ }
     ensures { λ r. ⌜ ((odd : ℕ) → odd < 2 → r ≡ encodingAt 0 op odd 9) ⌝ }
@@ -221,11 +225,11 @@ fn extra_transfer(op: u32, odd: u32, low: u32) -> Class
 {
     let load = op % 2;
     match low {
-        0..=11 => match load {
+        11 => match load {
             0 => Class::Strh,
             _ => Class::Ldrh,
         },
-        12..=13 => match load {
+        13 => match load {
             0 => doubleword(odd, Class::Ldrd),
             _ => Class::Ldrsb,
         },
@@ -278,6 +282,7 @@ fn single_transfer(op: u32) -> Class
     }
 }
 
+// PLD has B and L set.
 fn preload(op: u32) -> Class
     requires { ⌜ (64 ≤ op) × (op < 128) ⌝ }
     ensures { λ r. ⌜ ((odd low : ℕ) → odd < 2 → low < 16 → op / 32 + low % 2 < 4 → r ≡ encodingAt 1 op odd low) ⌝ }

@@ -9,7 +9,7 @@ mod sets;
 
 ghost use mathlib.Core.Path.{_≡_};
 ghost use Rattle.arm.specs.Naming.{classOf};
-ghost use Rattle.arm.specs.Ins.{decodeOf};
+ghost use Rattle.arm.specs.Ins.{decodeOf, isConditional};
 
 // The manual's ARM instructions in the order of their printed names, then document 01's own names.
 pub enum Class {
@@ -173,7 +173,8 @@ pub enum Form {
     Nothing,
 }
 
-// A decoded word. Every field is read by its place, whatever the class: an instruction without that operand leaves it unused.
+// A decoded word. Every field is read by its place, whatever the class: `rd` is bits 15 to 12 and `rn` bits 19 to 16 also where a page
+// gives them other names, `op2` is addressing mode 1, `addr` mode 2 and `mode` mode 4. Sets and flag follow the instruction's page.
 pub struct Ins {
     pub class: Class,
     pub cond: u8,
@@ -191,6 +192,15 @@ pub struct Ins {
     pub updates_condition_flags: bool,
 }
 
+impl Ins {
+    // A condition field other than 1110 and 1111.
+    pub fn is_conditional(self) -> bool
+        ensures { λ r. ⌜ r ≡ isConditional (self .cond) ⌝ }
+    {
+        self.cond < 14
+    }
+}
+
 // The class of a word.
 pub fn class_of(word: u32) -> Class
     ensures { λ r. ⌜ r ≡ classOf word ⌝ }
@@ -202,10 +212,10 @@ pub fn class_of(word: u32) -> Class
 pub fn decode(word: u32, address: u32) -> Ins
     ensures { λ r. ⌜ r ≡ decodeOf word address ⌝ }
 {
-    let class = class_of(word);
-    let form = sets::form(class);
+    let encoding = encoding::encoding(word);
+    let form = sets::form(encoding);
     Ins {
-        class,
+        class: naming::name(encoding, word),
         cond: (word / 0x1000_0000) as u8,
         s: word / 0x10_0000 % 2 == 1,
         rd: (word / 0x1000 % 16) as u8,

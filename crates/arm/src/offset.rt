@@ -27,7 +27,7 @@ pub fn load_offset(word: u32) -> i32
     }
 }
 
-// The bits of `offset` in two's complement.
+// The bits of `offset` in two's complement, since a cast of a negative number would lose its value.
 pub fn pattern(offset: i32) -> u32
     ensures { λ r. ⌜ r ≡ ofZ w32 offset ⌝ }
 {

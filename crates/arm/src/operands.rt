@@ -1,4 +1,4 @@
-// Operands, by the manual's addressing modes.
+// Operands, by the manual's addressing modes (chapter A5).
 use crate::AddrLdrStr;
 use crate::LdmStmMode;
 use crate::LdrStrOffset;
@@ -13,6 +13,7 @@ ghost use Prim.Native.Nat.{_<_};
 ghost use Rattle.arm.specs.Operands.{shiftOf, zeroShiftOf, zeroAmountOf, shiftImmOf, shiftAmountOf};
 ghost use Rattle.arm.specs.Operands.{op2Of, offsetOf, addrOf, modeOf, extraOf, targetOf};
 
+// A shift by a register, or by an amount other than 0.
 fn shift(kind: u32) -> ShiftOp
     requires { ⌜ kind < 4 ⌝ }
     ensures { λ r. ⌜ r ≡ shiftOf kind ⌝ }
@@ -25,6 +26,7 @@ fn shift(kind: u32) -> ShiftOp
     }
 }
 
+// An amount field of 0 stands for LSL #0, LSR #32, ASR #32 and RRX.
 fn zero_shift(kind: u32) -> ShiftOp
     requires { ⌜ kind < 4 ⌝ }
     ensures { λ r. ⌜ r ≡ zeroShiftOf kind ⌝ }
@@ -49,7 +51,8 @@ fn zero_amount(kind: u32) -> u8
     }
 }
 
-pub fn shift_imm(word: u32) -> ShiftOp
+// The shift of a register by an immediate amount, and that amount.
+fn shift_imm(word: u32) -> ShiftOp
     ensures { λ r. ⌜ r ≡ shiftImmOf word ⌝ }
 {
     let kind = word / 0x20 % 4;
@@ -61,7 +64,7 @@ pub fn shift_imm(word: u32) -> ShiftOp
     }
 }
 
-pub fn shift_amount(word: u32) -> u8
+fn shift_amount(word: u32) -> u8
     ensures { λ r. ⌜ r ≡ shiftAmountOf word ⌝ }
 {
     let kind = word / 0x20 % 4;
@@ -73,6 +76,7 @@ pub fn shift_amount(word: u32) -> u8
     }
 }
 
+// Addressing mode 1.
 pub fn op2(word: u32) -> Op2
     ensures { λ r. ⌜ r ≡ op2Of word ⌝ }
 {
@@ -94,6 +98,7 @@ pub fn op2(word: u32) -> Op2
     }
 }
 
+// Addressing mode 2: bit 25 tells a register offset, U its sign.
 fn offset(word: u32) -> LdrStrOffset
     ensures { λ r. ⌜ r ≡ offsetOf word ⌝ }
 {
@@ -108,6 +113,7 @@ fn offset(word: u32) -> LdrStrOffset
     LdrStrOffset::Imm(load_offset(word))
 }
 
+// Addressing mode 2: P tells whether the offset counts before the access.
 pub fn addr(word: u32) -> AddrLdrStr
     ensures { λ r. ⌜ r ≡ addrOf word ⌝ }
 {
@@ -125,6 +131,7 @@ pub fn addr(word: u32) -> AddrLdrStr
     }
 }
 
+// Addressing mode 4: P and U.
 pub fn mode(word: u32) -> LdmStmMode
     ensures { λ r. ⌜ r ≡ modeOf word ⌝ }
 {
@@ -137,6 +144,7 @@ pub fn mode(word: u32) -> LdmStmMode
     }
 }
 
+// BLX with an immediate can go to a halfword, by its H bit.
 fn extra(word: u32) -> u32
     ensures { λ r. ⌜ r ≡ extraOf word ⌝ }
 {
@@ -146,6 +154,7 @@ fn extra(word: u32) -> u32
     0
 }
 
+// Where a branch at `address` goes.
 pub fn target(word: u32, address: u32) -> u32
     ensures { λ r. ⌜ r ≡ targetOf word address ⌝ }
 {

@@ -1,4 +1,4 @@
-// The one place where every class is told from every other; all else goes by the number.
+// The number of each class, so that others can test and print a class without naming all 74.
 use crate::Class;
 ghost use mathlib.Core.Path.{_≡_};
 ghost use Rattle.arm.specs.Class.{classNo};

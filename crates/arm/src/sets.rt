@@ -4,14 +4,15 @@ use crate::Form;
 ghost use mathlib.Core.Path.{_≡_};
 ghost use Prim.Native.Nat.{_<_, _^_};
 ghost use Rattle.arm.specs.Sets.{formOf, usesOf, defsOf, flagsOf};
-ghost use Rattle.arm.specs.Sets.{rn as rnSet, rd as rdSet, rs as rsSet, rm as rmSet};
-ghost use Rattle.arm.specs.Sets.{shifter as shifterSet, offset2 as offset2Set, offset3 as offset3Set};
-ghost use Rattle.arm.specs.Sets.{indexed as indexedSet, writtenBack, pair as pairSet, statusSource, coprocessorResult};
+ghost use Rattle.arm.specs.Sets.{rnSet, rdSet, rsSet, rmSet, shifterSet, offset2Set, offset3Set};
+ghost use Rattle.arm.specs.Sets.{indexedSet, writtenBackSet, pairSet, statusSourceSet, coprocessorResultSet};
+ghost use Rattle.arm.specs.Sets.{restores, writesFlags};
 
 const LR: u16 = 0x4000;
 
 const PC: u16 = 0x8000;
 
+// The one table from instructions to operands.
 pub fn form(class: Class) -> Form
     ensures { λ r. ⌜ r ≡ formOf class ⌝ }
 {
@@ -60,6 +61,7 @@ pub fn form(class: Class) -> Form
     }
 }
 
+// The set of one register; below, of the register that a field names.
 fn one(register: u32) -> u16
     requires { ⌜ register < 16 ⌝ }
     ensures { λ r. ⌜ r ≡ 2 ^ register ⌝ }
@@ -91,6 +93,7 @@ fn rm(word: u32) -> u16
     one(word % 16)
 }
 
+// What addressing mode 1 reads.
 fn shifter(word: u32) -> u16
     ensures { λ r. ⌜ r ≡ shifterSet word ⌝ }
 {
@@ -103,6 +106,7 @@ fn shifter(word: u32) -> u16
     rm(word)
 }
 
+// What the offset of addressing mode 2 reads, and of mode 3.
 fn offset2(word: u32) -> u16
     ensures { λ r. ⌜ r ≡ offset2Set word ⌝ }
 {
@@ -121,8 +125,9 @@ fn offset3(word: u32) -> u16
     rm(word)
 }
 
+// The base, where W writes it back; in modes 2 and 3 post-indexing writes it too.
 fn written_back(word: u32) -> u16
-    ensures { λ r. ⌜ r ≡ writtenBack word ⌝ }
+    ensures { λ r. ⌜ r ≡ writtenBackSet word ⌝ }
 {
     if word / 0x20_0000 % 2 == 1 {
         return rn(word);
@@ -139,14 +144,16 @@ fn indexed(word: u32) -> u16
     rn(word)
 }
 
+// An even register and the odd one after it.
 fn pair(word: u32) -> u16
     ensures { λ r. ⌜ r ≡ pairSet word ⌝ }
 {
     rd(word) | one(word / 0x1000 % 16 / 2 * 2 + 1)
 }
 
+// MSR reads Rm unless it has an immediate.
 fn status_source(word: u32) -> u16
-    ensures { λ r. ⌜ r ≡ statusSource word ⌝ }
+    ensures { λ r. ⌜ r ≡ statusSourceSet word ⌝ }
 {
     if word / 0x200_0000 % 2 == 1 {
         return 0;
@@ -154,8 +161,9 @@ fn status_source(word: u32) -> u16
     rm(word)
 }
 
+// MRC to R15 writes the condition flags instead.
 fn coprocessor_result(word: u32) -> u16
-    ensures { λ r. ⌜ r ≡ coprocessorResult word ⌝ }
+    ensures { λ r. ⌜ r ≡ coprocessorResultSet word ⌝ }
 {
     if word / 0x1000 % 16 == 15 {
         return 0;
@@ -223,6 +231,26 @@ pub fn defs(form: Form, word: u32) -> u16
     }
 }
 
+// LDM with S and PC in its list.
+fn restores_status(word: u32) -> bool
+    ensures { λ r. ⌜ r ≡ restores word ⌝ }
+{
+    if word / 0x40_0000 % 2 == 1 {
+        return word / 0x8000 % 2 == 1;
+    }
+    false
+}
+
+// MSR to the CPSR and not the SPSR, with the flag byte in its field mask.
+fn writes_flags(word: u32) -> bool
+    ensures { λ r. ⌜ r ≡ writesFlags word ⌝ }
+{
+    if word / 0x40_0000 % 2 == 1 {
+        return false;
+    }
+    word / 0x8_0000 % 2 == 1
+}
+
 pub fn updates_condition_flags(form: Form, word: u32) -> bool
     ensures { λ r. ⌜ r ≡ flagsOf form word ⌝ }
 {
@@ -234,8 +262,8 @@ pub fn updates_condition_flags(form: Form, word: u32) -> bool
         | Form::MultiplyLong
         | Form::MultiplyAddLong => word / 0x10_0000 % 2 == 1,
         Form::Compare => true,
-        Form::LoadBlock => word / 0x40_0000 % 2 + word / 0x8000 % 2 == 2,
-        Form::StatusWrite => word / 0x40_0000 % 2 + 2 * (word / 0x8_0000 % 2) == 2,
+        Form::LoadBlock => restores_status(word),
+        Form::StatusWrite => writes_flags(word),
         Form::FromCoprocessor => word / 0x1000 % 16 == 15,
         Form::Saturate
         | Form::CountZeros

@@ -1,26 +1,30 @@
 -- `decode` meets its contract, field by field.
 use Rattle.arm.specs.Ins.{decodeOf}
+use Rattle.arm.specs.Naming.{classOf}
 use borrow.Author.Needs.{needs}
 use Rattle.arm.proofs.decode.Statement.{statement}
 use Rattle.arm.proofs.decode.Tie as tie
 
-class-of-requires : tie.Need-class-of-requires
-class-of-requires c κs = search needs
+encoding-requires : tie.Need-encoding-requires
+encoding-requires c κs = search needs
 
 form-requires : tie.Need-form-requires
 form-requires c κs = search needs
 
-cast-t6 : tie.Need-cast-t6
-cast-t6 c = search needs
+name-requires : tie.Need-name-requires
+name-requires c κs = search needs
 
-cast-t12 : tie.Need-cast-t12
-cast-t12 c = search needs
+cast-t7 : tie.Need-cast-t7
+cast-t7 c = search needs
 
-cast-t15 : tie.Need-cast-t15
-cast-t15 c = search needs
+cast-t13 : tie.Need-cast-t13
+cast-t13 c = search needs
 
-cast-t17 : tie.Need-cast-t17
-cast-t17 c = search needs
+cast-t16 : tie.Need-cast-t16
+cast-t16 c = search needs
+
+cast-t18 : tie.Need-cast-t18
+cast-t18 c = search needs
 
 op2-requires : tie.Need-op2-requires
 op2-requires c κs = search needs
@@ -31,8 +35,8 @@ addr-requires c κs = search needs
 mode-requires : tie.Need-mode-requires
 mode-requires c κs = search needs
 
-cast-t22 : tie.Need-cast-t22
-cast-t22 c = search needs
+cast-t23 : tie.Need-cast-t23
+cast-t23 c = search needs
 
 target-requires : tie.Need-target-requires
 target-requires c κs = search needs
@@ -47,23 +51,24 @@ updates-condition-flags-requires : tie.Need-updates-condition-flags-requires
 updates-condition-flags-requires c κs = search needs
 
 returns : tie.Need-returns
-unfolding decodeOf
+unfolding decodeOf classOf
 returns c = cc
 
 pub decode-spec : {M : Type 1} → statement M
 decode-spec =
     tie.close
     (tie.spec
-    class-of-requires
+    encoding-requires
     form-requires
-    cast-t6
-    cast-t12
-    cast-t15
-    cast-t17
+    name-requires
+    cast-t7
+    cast-t13
+    cast-t16
+    cast-t18
     op2-requires
     addr-requires
     mode-requires
-    cast-t22
+    cast-t23
     target-requires
     uses-requires
     defs-requires

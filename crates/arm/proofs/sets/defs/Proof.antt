@@ -3,7 +3,7 @@ use mathlib.Core.Path.{refl}
 use mathlib.Core.List.{[], _∷_}
 use Prim.Native.Nat.{_%_}
 use lib.Bits.{bitOr}
-use Rattle.arm.specs.Sets.{defsOf, coprocessorResult, indexed, pair, rd, rn, writtenBack}
+use Rattle.arm.specs.Sets.{defsOf, coprocessorResultSet, indexedSet, pairSet, rdSet, rnSet, writtenBackSet}
 use Rattle.arm.proofs.Numbers.{form-arm}
 use borrow.Author.Needs.{needs}
 use Rattle.arm.proofs.sets.defs.Statement.{statement}
@@ -59,15 +59,15 @@ coprocessor-result-requires c κs = search needs
 
 returns : tie.Need-returns
 unfolding defsOf
-returns c = let w = c .before .before .args .word in cc (form-arm (λ f. defsOf f w) (rd w) (0 ∷ 2 ∷ 7 ∷ 8 ∷ 23 ∷ 24 ∷ []) refl (c .before .before .args .form) (c .before .match .keys1))
+returns c = let w = c .before .before .args .word in cc (form-arm (λ f. defsOf f w) (rdSet w) (0 ∷ 2 ∷ 7 ∷ 8 ∷ 23 ∷ 24 ∷ []) refl (c .before .before .args .form) (c .before .match .keys1))
 
 returns-2 : tie.Need-returns-2
 unfolding defsOf
-returns-2 c = let w = c .before .before .args .word in cc (form-arm (λ f. defsOf f w) (rn w) (3 ∷ 4 ∷ []) refl (c .before .before .args .form) (c .before .match .keys2))
+returns-2 c = let w = c .before .before .args .word in cc (form-arm (λ f. defsOf f w) (rnSet w) (3 ∷ 4 ∷ []) refl (c .before .before .args .form) (c .before .match .keys2))
 
 returns-3 : tie.Need-returns-3
 unfolding defsOf
-returns-3 c = let w = c .before .before .before .args .word in cc (form-arm (λ f. defsOf f w) (bitOr (rd w) (rn w)) (5 ∷ 6 ∷ 30 ∷ []) refl (c .before .before .before .args .form) (c .before .before .match .keys3))
+returns-3 c = let w = c .before .before .before .args .word in cc (form-arm (λ f. defsOf f w) (bitOr (rdSet w) (rnSet w)) (5 ∷ 6 ∷ 30 ∷ []) refl (c .before .before .before .args .form) (c .before .before .match .keys3))
 
 returns-4 : tie.Need-returns-4
 unfolding defsOf
@@ -79,27 +79,27 @@ returns-5 c = let w = c .before .args .word in form-arm (λ f. defsOf f w) (bitO
 
 returns-6 : tie.Need-returns-6
 unfolding defsOf
-returns-6 c = let w = c .before .before .before .args .word in cc (form-arm (λ f. defsOf f w) (bitOr (rd w) (indexed w)) (14 ∷ 17 ∷ []) refl (c .before .before .before .args .form) (c .before .before .match .keys6))
+returns-6 c = let w = c .before .before .before .args .word in cc (form-arm (λ f. defsOf f w) (bitOr (rdSet w) (indexedSet w)) (14 ∷ 17 ∷ []) refl (c .before .before .before .args .form) (c .before .before .match .keys6))
 
 returns-7 : tie.Need-returns-7
 unfolding defsOf
-returns-7 c = let w = c .before .before .before .before .args .word in cc (form-arm (λ f. defsOf f w) (bitOr (pair w) (indexed w)) (19 ∷ []) refl (c .before .before .before .before .args .form) (c .before .before .before .match .keys7))
+returns-7 c = let w = c .before .before .before .before .args .word in cc (form-arm (λ f. defsOf f w) (bitOr (pairSet w) (indexedSet w)) (19 ∷ []) refl (c .before .before .before .before .args .form) (c .before .before .before .match .keys7))
 
 returns-8 : tie.Need-returns-8
 unfolding defsOf
-returns-8 c = let w = c .before .before .args .word in cc (form-arm (λ f. defsOf f w) (indexed w) (15 ∷ 18 ∷ 20 ∷ []) refl (c .before .before .args .form) (c .before .match .keys8))
+returns-8 c = let w = c .before .before .args .word in cc (form-arm (λ f. defsOf f w) (indexedSet w) (15 ∷ 18 ∷ 20 ∷ []) refl (c .before .before .args .form) (c .before .match .keys8))
 
 returns-9 : tie.Need-returns-9
 unfolding defsOf
-returns-9 c = let w = c .before .before .before .args .word in cc (form-arm (λ f. defsOf f w) (bitOr (w % 65536) (writtenBack w)) (21 ∷ []) refl (c .before .before .before .args .form) (c .before .before .match .keys9))
+returns-9 c = let w = c .before .before .before .args .word in cc (form-arm (λ f. defsOf f w) (bitOr (w % 65536) (writtenBackSet w)) (21 ∷ []) refl (c .before .before .before .args .form) (c .before .before .match .keys9))
 
 returns-10 : tie.Need-returns-10
 unfolding defsOf
-returns-10 c = let w = c .before .before .args .word in cc (form-arm (λ f. defsOf f w) (writtenBack w) (22 ∷ 26 ∷ []) refl (c .before .before .args .form) (c .before .match .keys10))
+returns-10 c = let w = c .before .before .args .word in cc (form-arm (λ f. defsOf f w) (writtenBackSet w) (22 ∷ 26 ∷ []) refl (c .before .before .args .form) (c .before .match .keys10))
 
 returns-11 : tie.Need-returns-11
 unfolding defsOf
-returns-11 c = let w = c .before .before .before .args .word in cc (form-arm (λ f. defsOf f w) (coprocessorResult w) (28 ∷ []) refl (c .before .before .before .args .form) (c .before .before .match .keys11))
+returns-11 c = let w = c .before .before .before .args .word in cc (form-arm (λ f. defsOf f w) (coprocessorResultSet w) (28 ∷ []) refl (c .before .before .before .args .form) (c .before .before .match .keys11))
 
 returns-12 : tie.Need-returns-12
 unfolding defsOf

@@ -2,40 +2,11 @@
 use mathlib.Core.Path.{refl}
 use mathlib.Core.List.{[], _∷_}
 use borrow.Author.Needs.{needs}
-use Rattle.arm.specs.declared.Form.the-variants.{
-  Compute,
-  Compare,
-  Move,
-  Multiply,
-  MultiplyAdd,
-  MultiplyLong,
-  MultiplyAddLong,
-  Saturate,
-  CountZeros,
-  Branch,
-  BranchLink,
-  BranchRegister,
-  BranchLinkRegister,
-  Trap,
-  Load,
-  Store,
-  Preload,
-  LoadExtra,
-  StoreExtra,
-  LoadDouble,
-  StoreDouble,
-  LoadBlock,
-  StoreBlock,
-  Swap,
-  StatusRead,
-  StatusWrite,
-  CoprocessorTransfer,
-  ToCoprocessor,
-  FromCoprocessor,
-  PairToCoprocessor,
-  PairFromCoprocessor,
-  Nothing,
-}
+use Rattle.arm.specs.declared.Form.the-variants.{Compute, Compare, Move, Multiply, MultiplyAdd, MultiplyLong, MultiplyAddLong}
+use Rattle.arm.specs.declared.Form.the-variants.{Saturate, CountZeros, Branch, BranchLink, BranchRegister, BranchLinkRegister}
+use Rattle.arm.specs.declared.Form.the-variants.{Trap, Load, Store, Preload, LoadExtra, StoreExtra, LoadDouble, StoreDouble}
+use Rattle.arm.specs.declared.Form.the-variants.{LoadBlock, StoreBlock, Swap, StatusRead, StatusWrite, CoprocessorTransfer}
+use Rattle.arm.specs.declared.Form.the-variants.{ToCoprocessor, FromCoprocessor, PairToCoprocessor, PairFromCoprocessor, Nothing}
 use Rattle.arm.specs.Sets.{formOf}
 use Rattle.arm.proofs.Numbers.{class-arm}
 use Rattle.arm.proofs.sets.form.Statement.{statement}

@@ -1,7 +1,7 @@
 -- `indexed` meets its contract, by bit 24.
 use mathlib.Core.Path.{sym, _∙_, ap, refl}
 use Rattle.arm.proofs.Choice.{if-yes, if-no}
-use Rattle.arm.specs.Sets.{indexed}
+use Rattle.arm.specs.Sets.{indexedSet}
 use borrow.Author.Needs.{needs}
 use Rattle.arm.proofs.sets.indexed.Statement.{statement}
 use Rattle.arm.proofs.sets.indexed.Tie as tie
@@ -10,14 +10,14 @@ written-back-requires : tie.Need-written-back-requires
 written-back-requires c κs = search needs
 
 returns : tie.Need-returns
-unfolding indexed
+unfolding indexedSet
 returns c = c .written-back .ensures ∙ if-yes 24 _ _ _ (c .before .if1 .taken)
 
 rn-requires : tie.Need-rn-requires
 rn-requires c κs = search needs
 
 returns-2 : tie.Need-returns-2
-unfolding indexed
+unfolding indexedSet
 returns-2 c = c .rn .ensures ∙ if-no 24 _ _ _ (c .before .if1 .left)
 
 pub indexed-spec : {M : Type 1} → statement M

@@ -1,7 +1,7 @@
 -- `offset2` meets its contract, by bit 25.
 use mathlib.Core.Path.{sym, _∙_, ap, refl}
 use Rattle.arm.proofs.Choice.{if-yes, if-no}
-use Rattle.arm.specs.Sets.{offset2}
+use Rattle.arm.specs.Sets.{offset2Set}
 use borrow.Author.Needs.{needs}
 use Rattle.arm.proofs.sets.offset2.Statement.{statement}
 use Rattle.arm.proofs.sets.offset2.Tie as tie
@@ -10,11 +10,11 @@ rm-requires : tie.Need-rm-requires
 rm-requires c κs = search needs
 
 returns : tie.Need-returns
-unfolding offset2
+unfolding offset2Set
 returns c = c .rm .ensures ∙ if-yes 25 _ _ _ (c .before .if1 .taken)
 
 returns-2 : tie.Need-returns-2
-unfolding offset2
+unfolding offset2Set
 returns-2 c = if-no 25 _ _ _ (c .if1 .left)
 
 pub offset2-spec : {M : Type 1} → statement M

@@ -1,20 +1,20 @@
 -- `status_source` meets its contract, by bit 25.
 use mathlib.Core.Path.{sym, _∙_, ap, refl}
 use Rattle.arm.proofs.Choice.{if-yes, if-no}
-use Rattle.arm.specs.Sets.{statusSource}
+use Rattle.arm.specs.Sets.{statusSourceSet}
 use borrow.Author.Needs.{needs}
 use Rattle.arm.proofs.sets.status_source.Statement.{statement}
 use Rattle.arm.proofs.sets.status_source.Tie as tie
 
 returns : tie.Need-returns
-unfolding statusSource
+unfolding statusSourceSet
 returns c = if-yes 25 _ _ _ (c .if1 .taken)
 
 rm-requires : tie.Need-rm-requires
 rm-requires c κs = search needs
 
 returns-2 : tie.Need-returns-2
-unfolding statusSource
+unfolding statusSourceSet
 returns-2 c = c .rm .ensures ∙ if-no 25 _ _ _ (c .before .if1 .left)
 
 pub status-source-spec : {M : Type 1} → statement M

@@ -2,10 +2,9 @@
 use mathlib.Core.Path.{refl}
 use mathlib.Core.List.{[], _∷_}
 use mathlib.Core.Bool.{true, false}
-use Prim.Native.Nat.{_+_, _*_}
 use lib.Dec.{eqb}
 use Rattle.arm.specs.Fields.{bit, rdOf}
-use Rattle.arm.specs.Sets.{flagsOf}
+use Rattle.arm.specs.Sets.{flagsOf, restores, writesFlags}
 use Rattle.arm.proofs.Numbers.{form-arm}
 use borrow.Author.Needs.{needs}
 use Rattle.arm.proofs.sets.updates_condition_flags.Statement.{statement}
@@ -17,17 +16,14 @@ enum-told c = search needs
 enum-told-2 : tie.Need-enum-told-2
 enum-told-2 c = search needs
 
-add-result : tie.Need-add-result
-add-result c = search needs
+restores-status-requires : tie.Need-restores-status-requires
+restores-status-requires c κs = search needs
 
 enum-told-3 : tie.Need-enum-told-3
 enum-told-3 c = search needs
 
-mul-result : tie.Need-mul-result
-mul-result c = search needs
-
-add-result-2 : tie.Need-add-result-2
-add-result-2 c = search needs
+writes-flags-requires : tie.Need-writes-flags-requires
+writes-flags-requires c κs = search needs
 
 enum-told-4 : tie.Need-enum-told-4
 enum-told-4 c = search needs
@@ -42,11 +38,11 @@ returns-2 c = let w = c .before .before .args .word in form-arm (λ f. flagsOf f
 
 returns-3 : tie.Need-returns-3
 unfolding flagsOf
-returns-3 c = let w = c .before .before .args .word in form-arm (λ f. flagsOf f w) (eqb (bit 22 w + bit 15 w) 2) (21 ∷ []) refl (c .before .before .args .form) (c .before .match .keys3)
+returns-3 c = let w = c .before .before .before .args .word in cc (form-arm (λ f. flagsOf f w) (restores w) (21 ∷ []) refl (c .before .before .before .args .form) (c .before .before .match .keys3))
 
 returns-4 : tie.Need-returns-4
 unfolding flagsOf
-returns-4 c = let w = c .before .before .args .word in form-arm (λ f. flagsOf f w) (eqb (bit 22 w + 2 * bit 19 w) 2) (25 ∷ []) refl (c .before .before .args .form) (c .before .match .keys4)
+returns-4 c = let w = c .before .before .before .args .word in cc (form-arm (λ f. flagsOf f w) (writesFlags w) (25 ∷ []) refl (c .before .before .before .args .form) (c .before .before .match .keys4))
 
 returns-5 : tie.Need-returns-5
 unfolding flagsOf
@@ -62,10 +58,9 @@ updates-condition-flags-spec =
     (tie.spec
     enum-told
     enum-told-2
-    add-result
+    restores-status-requires
     enum-told-3
-    mul-result
-    add-result-2
+    writes-flags-requires
     enum-told-4
     returns
     returns-2

@@ -3,7 +3,7 @@ use mathlib.Core.Path.{refl}
 use mathlib.Core.List.{[], _∷_}
 use Prim.Native.Nat.{_%_}
 use lib.Bits.{bitOr}
-use Rattle.arm.specs.Sets.{usesOf, offset2, offset3, pair, rd, rm, rn, rs, shifter, statusSource}
+use Rattle.arm.specs.Sets.{usesOf, offset2Set, offset3Set, pairSet, rdSet, rmSet, rnSet, rsSet, shifterSet, statusSourceSet}
 use Rattle.arm.proofs.Numbers.{form-arm}
 use borrow.Author.Needs.{needs}
 use Rattle.arm.proofs.sets.uses.Statement.{statement}
@@ -146,31 +146,31 @@ rn-requires-11 c κs = search needs
 
 returns : tie.Need-returns
 unfolding usesOf
-returns c = let w = c .before .before .before .args .word in cc (form-arm (λ f. usesOf f w) (bitOr (rn w) (shifter w)) (0 ∷ 1 ∷ []) refl (c .before .before .before .args .form) (c .before .before .match .keys1))
+returns c = let w = c .before .before .before .args .word in cc (form-arm (λ f. usesOf f w) (bitOr (rnSet w) (shifterSet w)) (0 ∷ 1 ∷ []) refl (c .before .before .before .args .form) (c .before .before .match .keys1))
 
 returns-2 : tie.Need-returns-2
 unfolding usesOf
-returns-2 c = let w = c .before .before .before .args .word in cc (form-arm (λ f. usesOf f w) (shifter w) (2 ∷ []) refl (c .before .before .before .args .form) (c .before .before .match .keys2))
+returns-2 c = let w = c .before .before .before .args .word in cc (form-arm (λ f. usesOf f w) (shifterSet w) (2 ∷ []) refl (c .before .before .before .args .form) (c .before .before .match .keys2))
 
 returns-3 : tie.Need-returns-3
 unfolding usesOf
-returns-3 c = let w = c .before .before .before .args .word in cc (form-arm (λ f. usesOf f w) (bitOr (rm w) (rs w)) (3 ∷ 5 ∷ []) refl (c .before .before .before .args .form) (c .before .before .match .keys3))
+returns-3 c = let w = c .before .before .before .args .word in cc (form-arm (λ f. usesOf f w) (bitOr (rmSet w) (rsSet w)) (3 ∷ 5 ∷ []) refl (c .before .before .before .args .form) (c .before .before .match .keys3))
 
 returns-4 : tie.Need-returns-4
 unfolding usesOf
-returns-4 c = let w = c .before .before .before .before .before .args .word in cc (form-arm (λ f. usesOf f w) (bitOr (bitOr (rm w) (rs w)) (rd w)) (4 ∷ []) refl (c .before .before .before .before .before .args .form) (c .before .before .before .before .match .keys4))
+returns-4 c = let w = c .before .before .before .before .before .args .word in cc (form-arm (λ f. usesOf f w) (bitOr (bitOr (rmSet w) (rsSet w)) (rdSet w)) (4 ∷ []) refl (c .before .before .before .before .before .args .form) (c .before .before .before .before .match .keys4))
 
 returns-5 : tie.Need-returns-5
 unfolding usesOf
-returns-5 c = let w = c .before .before .before .before .before .before .args .word in cc (form-arm (λ f. usesOf f w) (bitOr (bitOr (bitOr (rm w) (rs w)) (rd w)) (rn w)) (6 ∷ []) refl (c .before .before .before .before .before .before .args .form) (c .before .before .before .before .before .match .keys5))
+returns-5 c = let w = c .before .before .before .before .before .before .args .word in cc (form-arm (λ f. usesOf f w) (bitOr (bitOr (bitOr (rmSet w) (rsSet w)) (rdSet w)) (rnSet w)) (6 ∷ []) refl (c .before .before .before .before .before .before .args .form) (c .before .before .before .before .before .match .keys5))
 
 returns-6 : tie.Need-returns-6
 unfolding usesOf
-returns-6 c = let w = c .before .before .before .args .word in cc (form-arm (λ f. usesOf f w) (bitOr (rm w) (rn w)) (7 ∷ 23 ∷ []) refl (c .before .before .before .args .form) (c .before .before .match .keys6))
+returns-6 c = let w = c .before .before .before .args .word in cc (form-arm (λ f. usesOf f w) (bitOr (rmSet w) (rnSet w)) (7 ∷ 23 ∷ []) refl (c .before .before .before .args .form) (c .before .before .match .keys6))
 
 returns-7 : tie.Need-returns-7
 unfolding usesOf
-returns-7 c = let w = c .before .before .args .word in cc (form-arm (λ f. usesOf f w) (rm w) (8 ∷ 11 ∷ 12 ∷ []) refl (c .before .before .args .form) (c .before .match .keys7))
+returns-7 c = let w = c .before .before .args .word in cc (form-arm (λ f. usesOf f w) (rmSet w) (8 ∷ 11 ∷ 12 ∷ []) refl (c .before .before .args .form) (c .before .match .keys7))
 
 returns-8 : tie.Need-returns-8
 unfolding usesOf
@@ -178,43 +178,43 @@ returns-8 c = let w = c .before .args .word in form-arm (λ f. usesOf f w) (3276
 
 returns-9 : tie.Need-returns-9
 unfolding usesOf
-returns-9 c = let w = c .before .before .before .args .word in cc (form-arm (λ f. usesOf f w) (bitOr (rn w) (offset2 w)) (14 ∷ 16 ∷ []) refl (c .before .before .before .args .form) (c .before .before .match .keys9))
+returns-9 c = let w = c .before .before .before .args .word in cc (form-arm (λ f. usesOf f w) (bitOr (rnSet w) (offset2Set w)) (14 ∷ 16 ∷ []) refl (c .before .before .before .args .form) (c .before .before .match .keys9))
 
 returns-10 : tie.Need-returns-10
 unfolding usesOf
-returns-10 c = let w = c .before .before .before .before .before .args .word in cc (form-arm (λ f. usesOf f w) (bitOr (bitOr (rd w) (rn w)) (offset2 w)) (15 ∷ []) refl (c .before .before .before .before .before .args .form) (c .before .before .before .before .match .keys10))
+returns-10 c = let w = c .before .before .before .before .before .args .word in cc (form-arm (λ f. usesOf f w) (bitOr (bitOr (rdSet w) (rnSet w)) (offset2Set w)) (15 ∷ []) refl (c .before .before .before .before .before .args .form) (c .before .before .before .before .match .keys10))
 
 returns-11 : tie.Need-returns-11
 unfolding usesOf
-returns-11 c = let w = c .before .before .before .args .word in cc (form-arm (λ f. usesOf f w) (bitOr (rn w) (offset3 w)) (17 ∷ 19 ∷ []) refl (c .before .before .before .args .form) (c .before .before .match .keys11))
+returns-11 c = let w = c .before .before .before .args .word in cc (form-arm (λ f. usesOf f w) (bitOr (rnSet w) (offset3Set w)) (17 ∷ 19 ∷ []) refl (c .before .before .before .args .form) (c .before .before .match .keys11))
 
 returns-12 : tie.Need-returns-12
 unfolding usesOf
-returns-12 c = let w = c .before .before .before .before .before .args .word in cc (form-arm (λ f. usesOf f w) (bitOr (bitOr (rd w) (rn w)) (offset3 w)) (18 ∷ []) refl (c .before .before .before .before .before .args .form) (c .before .before .before .before .match .keys12))
+returns-12 c = let w = c .before .before .before .before .before .args .word in cc (form-arm (λ f. usesOf f w) (bitOr (bitOr (rdSet w) (rnSet w)) (offset3Set w)) (18 ∷ []) refl (c .before .before .before .before .before .args .form) (c .before .before .before .before .match .keys12))
 
 returns-13 : tie.Need-returns-13
 unfolding usesOf
-returns-13 c = let w = c .before .before .before .before .before .args .word in cc (form-arm (λ f. usesOf f w) (bitOr (bitOr (pair w) (rn w)) (offset3 w)) (20 ∷ []) refl (c .before .before .before .before .before .args .form) (c .before .before .before .before .match .keys13))
+returns-13 c = let w = c .before .before .before .before .before .args .word in cc (form-arm (λ f. usesOf f w) (bitOr (bitOr (pairSet w) (rnSet w)) (offset3Set w)) (20 ∷ []) refl (c .before .before .before .before .before .args .form) (c .before .before .before .before .match .keys13))
 
 returns-14 : tie.Need-returns-14
 unfolding usesOf
-returns-14 c = let w = c .before .before .args .word in cc (form-arm (λ f. usesOf f w) (rn w) (21 ∷ 26 ∷ []) refl (c .before .before .args .form) (c .before .match .keys14))
+returns-14 c = let w = c .before .before .args .word in cc (form-arm (λ f. usesOf f w) (rnSet w) (21 ∷ 26 ∷ []) refl (c .before .before .args .form) (c .before .match .keys14))
 
 returns-15 : tie.Need-returns-15
 unfolding usesOf
-returns-15 c = let w = c .before .before .before .args .word in cc (form-arm (λ f. usesOf f w) (bitOr (w % 65536) (rn w)) (22 ∷ []) refl (c .before .before .before .args .form) (c .before .before .match .keys15))
+returns-15 c = let w = c .before .before .before .args .word in cc (form-arm (λ f. usesOf f w) (bitOr (w % 65536) (rnSet w)) (22 ∷ []) refl (c .before .before .before .args .form) (c .before .before .match .keys15))
 
 returns-16 : tie.Need-returns-16
 unfolding usesOf
-returns-16 c = let w = c .before .before .before .args .word in cc (form-arm (λ f. usesOf f w) (statusSource w) (25 ∷ []) refl (c .before .before .before .args .form) (c .before .before .match .keys16))
+returns-16 c = let w = c .before .before .before .args .word in cc (form-arm (λ f. usesOf f w) (statusSourceSet w) (25 ∷ []) refl (c .before .before .before .args .form) (c .before .before .match .keys16))
 
 returns-17 : tie.Need-returns-17
 unfolding usesOf
-returns-17 c = let w = c .before .before .before .args .word in cc (form-arm (λ f. usesOf f w) (rd w) (27 ∷ []) refl (c .before .before .before .args .form) (c .before .before .match .keys17))
+returns-17 c = let w = c .before .before .before .args .word in cc (form-arm (λ f. usesOf f w) (rdSet w) (27 ∷ []) refl (c .before .before .before .args .form) (c .before .before .match .keys17))
 
 returns-18 : tie.Need-returns-18
 unfolding usesOf
-returns-18 c = let w = c .before .before .before .before .args .word in cc (form-arm (λ f. usesOf f w) (bitOr (rd w) (rn w)) (29 ∷ []) refl (c .before .before .before .before .args .form) (c .before .before .before .match .keys18))
+returns-18 c = let w = c .before .before .before .before .args .word in cc (form-arm (λ f. usesOf f w) (bitOr (rdSet w) (rnSet w)) (29 ∷ []) refl (c .before .before .before .before .args .form) (c .before .before .before .match .keys18))
 
 returns-19 : tie.Need-returns-19
 unfolding usesOf

@@ -1,7 +1,7 @@
 -- `written_back` meets its contract, by bit 21.
 use mathlib.Core.Path.{sym, _∙_, ap, refl}
 use Rattle.arm.proofs.Choice.{if-yes, if-no}
-use Rattle.arm.specs.Sets.{writtenBack}
+use Rattle.arm.specs.Sets.{writtenBackSet}
 use borrow.Author.Needs.{needs}
 use Rattle.arm.proofs.sets.written_back.Statement.{statement}
 use Rattle.arm.proofs.sets.written_back.Tie as tie
@@ -10,11 +10,11 @@ rn-requires : tie.Need-rn-requires
 rn-requires c κs = search needs
 
 returns : tie.Need-returns
-unfolding writtenBack
+unfolding writtenBackSet
 returns c = c .rn .ensures ∙ if-yes 21 _ _ _ (c .before .if1 .taken)
 
 returns-2 : tie.Need-returns-2
-unfolding writtenBack
+unfolding writtenBackSet
 returns-2 c = if-no 21 _ _ _ (c .if1 .left)
 
 pub written-back-spec : {M : Type 1} → statement M
