@@ -14,12 +14,12 @@ use Rattle.arm.specs.declared.ShiftOp.{ShiftOp}
 use Rattle.arm.specs.declared.ShiftOp.the-variants.{Lsl, Lsr, Asr, Ror, Rrx}
 use Rattle.arm.specs.declared.Op2.{Op2}
 use Rattle.arm.specs.declared.Op2.the-variants.{Imm, ShiftImm, ShiftReg}
-use Rattle.arm.specs.Class.{classNo}
+use Rattle.arm.specs.Class.{classNo, is}
 use Rattle.arm.specs.Diagram
 use Rattle.arm.specs.Diagram.{Encoding, fits, fitting, firstOr, bits, view, unconditional}
 use Rattle.arm.specs.Encodings.{encodings, undefineds, encodingOn, encodingOf}
 use Rattle.arm.specs.Deciding.{viewAt}
-use Rattle.arm.specs.Naming.{shiftName, movName, stmName, ldmName, is, nameOf, classOf}
+use Rattle.arm.specs.Naming.{shiftName, movName, stmName, ldmName, nameOf, classOf}
 use Rattle.arm.specs.Operands.{op2Of}
 use Rattle.arm.specs.Manual.{Fits, Undefined, OfManual, Added, Named, Left, by-diagram, by-text, by-absence}
 use Rattle.arm.proofs.Numbers.{same-number}

@@ -130,6 +130,12 @@ modulo-minus p (suc q) h = modulo-minus-by p (suc q) h (ltb p (suc q)) (ltb→lt
 swap-last : (a b e : ℤ) → a +ℤ e +ℤ b ≡ a +ℤ b +ℤ e
 swap-last a b e = +ℤ-assoc a e b ∙ ap (λ (y : ℤ). a +ℤ y) (+ℤ-comm e b) ∙ sym (+ℤ-assoc a b e)
 
+-- the bits of a number in two's complement are its remainder
+pub bits-modulo : (z : ℤ) → SFits w32 z → ofZ w32 z ≡ modulo 0x1_0000_0000 z
+unfolding modulo
+bits-modulo (pos n) f = let k : n < 2 ^ 31 = f .sfits in omega arith
+bits-modulo (negsuc n) f = let k : n < 2 ^ 31 = f .sfits in omega arith
+
 -- the destination by the offset's bits in two's complement
 pub by-bits : (a : ℕ) (z : ℤ) (extra : ℕ) → SFits w32 z → (a + 8 + 4 * ofZ w32 z + extra) % 0x1_0000_0000 ≡ destination a z extra
 unfolding destination modulo

@@ -1,5 +1,7 @@
 -- The classes and their numbers, in document 01's order: the manual's names as they are printed, then the names that 01 adds.
 use Prim.Native.Nat.{ℕ}
+use mathlib.Core.Bool.{Bool}
+use lib.Dec.{eqb}
 use Rattle.arm.specs.declared.Class.{Class}
 use Rattle.arm.specs.declared.Class.the-variants.{Adc, Add, And, B, Bic, Bkpt, Bl, Blx1, Blx2, Bx, Cdp, Clz, Cmn, Cmp, Eor, Ldc}
 use Rattle.arm.specs.declared.Class.the-variants.{Ldm, Ldr, Ldrb, Ldrbt, Ldrd, Ldrh, Ldrsb, Ldrsh, Ldrt, Mcr, Mcrr, Mla, Mov, Mrc}
@@ -84,3 +86,7 @@ classNo Lsr = 70
 classNo Asr = 71
 classNo Ror = 72
 classNo Illegal = 73
+
+-- one class is another
+abbrev pub is : Class → Class → Bool
+is j k = eqb (classNo j) (classNo k)

@@ -1,6 +1,6 @@
 -- Document 01's naming rules, and a word's class.
 use Prim.Native.Nat.{ℕ, _/_, _%_, _^_}
-use mathlib.Core.Bool.{Bool, true, false}
+use mathlib.Core.Bool.{true, false}
 use lib.Dec.{eqb}
 use Rattle.arm.specs.declared.Class.{Class}
 use Rattle.arm.specs.declared.Class.the-variants.{Mov, Stm, Ldm, Push, Pop, Lsl, Lsr, Asr, Ror}
@@ -8,7 +8,7 @@ use Rattle.arm.specs.declared.ShiftOp.{ShiftOp}
 use Rattle.arm.specs.declared.ShiftOp.the-variants.{Lsl as shift-Lsl, Lsr as shift-Lsr, Asr as shift-Asr, Ror as shift-Ror, Rrx}
 use Rattle.arm.specs.declared.Op2.{Op2}
 use Rattle.arm.specs.declared.Op2.the-variants.{Imm, ShiftImm, ShiftReg}
-use Rattle.arm.specs.Class.{classNo}
+use Rattle.arm.specs.Class.{is}
 use Rattle.arm.specs.Encodings.{encodingOf}
 use Rattle.arm.specs.Operands.{op2Of}
 
@@ -32,9 +32,6 @@ stmName w = elim (eqb (w / 2 ^ 16 % 2 ^ 9) 0b1_0010_1101) [ true ↦ Push | fals
 
 unfoldable pub ldmName : ℕ → Class
 ldmName w = elim (eqb (w / 2 ^ 16 % 2 ^ 9) 0b0_1011_1101) [ true ↦ Pop | false ↦ Ldm ]
-
-abbrev pub is : Class → Class → Bool
-is j k = eqb (classNo j) (classNo k)
 
 -- the name of a word whose encoding has class k
 unfoldable pub nameOf : Class → ℕ → Class

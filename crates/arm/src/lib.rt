@@ -8,6 +8,7 @@ pub mod order;
 mod sets;
 
 ghost use mathlib.Core.Path.{_≡_};
+ghost use Rattle.arm.specs.Class.{is};
 ghost use Rattle.arm.specs.Naming.{classOf};
 ghost use Rattle.arm.specs.Ins.{decodeOf, isConditional};
 
@@ -193,6 +194,13 @@ pub struct Ins {
 }
 
 impl Ins {
+    pub fn is(self, class: Class) -> bool
+        ensures { λ r. ⌜ r ≡ is (self .class) class ⌝ }
+    {
+        let own = self.class;
+        order::number(own) == order::number(class)
+    }
+
     // A condition field other than 1110 and 1111.
     pub fn is_conditional(self) -> bool
         ensures { λ r. ⌜ r ≡ isConditional (self .cond) ⌝ }

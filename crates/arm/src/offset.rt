@@ -1,7 +1,5 @@
 ghost use mathlib.Core.Path.{_≡_};
-ghost use mir.Syntax.{w32};
-ghost use mir.Val.{ofZ};
-ghost use Rattle.arm.specs.Offset.{branchOffset, loadOffset, destination};
+ghost use Rattle.arm.specs.Offset.{branchOffset, loadOffset, destination, modulo};
 
 // The offset of a branch word, in words: bits 23 to 0 as two's complement.
 pub fn branch_offset(word: u32) -> i32
@@ -29,7 +27,7 @@ pub fn load_offset(word: u32) -> i32
 
 // The bits of `offset` in two's complement, since a cast of a negative number would lose its value.
 pub fn pattern(offset: i32) -> u32
-    ensures { λ r. ⌜ r ≡ ofZ w32 offset ⌝ }
+    ensures { λ r. ⌜ r ≡ modulo 0x1_0000_0000 offset ⌝ }
 {
     if offset < 0 {
         0xFFFF_FFFF - ((-1 - offset) as u32)

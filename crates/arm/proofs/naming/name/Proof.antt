@@ -4,8 +4,8 @@ use mathlib.Core.Bool.{false}
 use mathlib.Core.List.{List, [], _∷_}
 use Prim.Native.Nat.{ℕ}
 use Rattle.arm.specs.declared.Class.the-variants.{Mov, Stm, Ldm}
-use Rattle.arm.specs.Class.{classNo}
-use Rattle.arm.specs.Naming.{nameOf, is}
+use Rattle.arm.specs.Class.{classNo, is}
+use Rattle.arm.specs.Naming.{nameOf}
 use Rattle.arm.proofs.Numbers.{class-arm}
 use borrow.Author.Needs.{needs}
 use Rattle.arm.proofs.naming.name.Statement.{statement}

@@ -1,11 +1,10 @@
 -- `arm::offset::destination` meets its contract: the offset's bits lead to the same destination as the offset. Assumes nothing.
 use Prim.Native.Nat.{ℕ, _+_, _*_, _%_}
-use mathlib.Core.Path.{_∙_, ap}
+use mathlib.Core.Path.{_∙_, ap, sym}
 use borrow.Author.Needs.{needs}
-use mir.Syntax.{w32}
-use mir.Val.{ofZ}
 use mir.Facts.{toZ-ofZ}
-use Rattle.arm.proofs.OffsetLaws.{by-bits}
+use Rattle.arm.specs.Offset.{modulo}
+use Rattle.arm.proofs.OffsetLaws.{by-bits, bits-modulo}
 use Rattle.arm.proofs.offset.destination.Statement.{statement}
 use Rattle.arm.proofs.offset.destination.Tie as tie
 
@@ -36,7 +35,7 @@ returns c =
     let z = c .before .args .offset in
     let e = c .before .args .extra in
     let f = c .before .fits .offset in
-    ap (λ (n : ℕ). (a + 8 + 4 * n + e) % 0x1_0000_0000) (c .pattern .ensures ∙ ap (ofZ w32) (toZ-ofZ f)) ∙ by-bits a z e f
+    ap (λ (n : ℕ). (a + 8 + 4 * n + e) % 0x1_0000_0000) (c .pattern .ensures ∙ ap (modulo 0x1_0000_0000) (toZ-ofZ f) ∙ sym (bits-modulo z f)) ∙ by-bits a z e f
 
 pub destination-spec : {M : Type 1} → statement M
 destination-spec =

@@ -9,7 +9,7 @@ use lib.Signed.{nonNeg}
 use mir.Syntax.{w32}
 use mir.Val.{SFits, Fits}
 use mir.Facts.{fits-ofZ}
-use Rattle.arm.proofs.OffsetLaws.{flip, flip-read, negative-bits, same-bits}
+use Rattle.arm.proofs.OffsetLaws.{flip, flip-read, negative-bits, same-bits, bits-modulo}
 use Rattle.arm.proofs.offset.pattern.Statement.{statement}
 use Rattle.arm.proofs.offset.pattern.Tie as tie
 
@@ -38,10 +38,12 @@ cast-result-2 c =
 returns : tie.Need-returns
 returns c =
     let f = c .before .fits .offset in
-    ap (λ (z : ℤ). 0xFFFF_FFFF - natAbs z) (flip-read _ f (c .if1 .taken)) ∙ negative-bits _ f (c .if1 .taken)
+    ap (λ (z : ℤ). 0xFFFF_FFFF - natAbs z) (flip-read _ f (c .if1 .taken)) ∙ negative-bits _ f (c .if1 .taken) ∙ bits-modulo _ f
 
 returns-2 : tie.Need-returns-2
-returns-2 c = ap natAbs (same-bits _ (c .before .fits .offset) (c .if1 .left))
+returns-2 c =
+    let f = c .before .fits .offset in
+    ap natAbs (same-bits _ f (c .if1 .left)) ∙ bits-modulo _ f
 
 pub pattern-spec : {M : Type 1} → statement M
 pattern-spec =
