@@ -1,0 +1,12 @@
+//! The derives that the original names; nothing here reads or writes such values.
+use proc_macro::TokenStream;
+
+#[proc_macro_derive(Serialize)]
+pub fn serialize(_: TokenStream) -> TokenStream {
+    TokenStream::new()
+}
+
+#[proc_macro_derive(Deserialize)]
+pub fn deserialize(_: TokenStream) -> TokenStream {
+    TokenStream::new()
+}

@@ -1,0 +1,40 @@
+-- illegal_code.rs, the ARM arms: `handle`, case by case in the source's order.
+use Prim.Native.Nat.{ℕ, _/_, _%_, _^_}
+use mathlib.Core.Bool.{Bool, true, false}
+use lib.Dec.{eqb}
+use Rattle.arm.specs.declared.Class.the-variants.{Illegal as ILLEGAL, Lsl, Lsr, Asr, Ror, Stm, Str, Ldm}
+use Rattle.arm.specs.declared.Ins.{Ins}
+use Rattle.arm.specs.Class.{is}
+use Rattle.analysis.specs.declared.illegal_code.IllegalCodeState.{IllegalCodeState}
+use Rattle.analysis.specs.declared.illegal_code.IllegalCodeState.the-variants.{Start, ShiftedRegisterValue, Illegal}
+use Rattle.analysis.specs.Pattern.{pick, both, byItself, pc}
+
+-- a register gets a shifted value
+unfoldable pub isShift : Ins → Bool
+isShift i = pick (is (i .class) Lsl) true (pick (is (i .class) Lsr) true (pick (is (i .class) Asr) true (is (i .class) Ror)))
+
+-- the register that was just shifted is the base of a block store
+unfoldable pub dereferenced : IllegalCodeState → Ins → Bool
+dereferenced Start i = false
+dereferenced (ShiftedRegisterValue reg) i = both (is (i .class) Stm) (eqb reg (i .rn))
+dereferenced (Illegal reason) i = false
+
+-- a store whose offset register is its base
+unfoldable pub offsetByItself : Ins → Bool
+offsetByItself i = both (is (i .class) Str) (byItself (i .addr))
+
+abbrev pub pcInList : ℕ → Bool
+pcInList regs = eqb (regs / 2 ^ 15 % 2) 1
+
+-- a block load off PC into PC
+unfoldable pub readsPcIntoPc : Ins → Bool
+readsPcIntoPc i = both (is (i .class) Ldm) (both (eqb (i .rn) pc) (pcInList (i .regs)))
+
+-- the reasons by document 01's numbers: illegal opcode, dereferencing shifted registers, offset by itself, PC read into PC
+unfoldable pub illegalCode : IllegalCodeState → Ins → IllegalCodeState
+illegalCode s i =
+    pick (is (i .class) ILLEGAL) (Illegal 5)
+    (pick (isShift i) (ShiftedRegisterValue (i .rd))
+    (pick (dereferenced s i) (Illegal 6)
+    (pick (offsetByItself i) (Illegal 7)
+    (pick (readsPcIntoPc i) (Illegal 8) Start))))
