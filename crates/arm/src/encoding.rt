@@ -2,7 +2,6 @@
 // and `low` (bits 7 to 4). One decision, split where the manual's classification splits it.
 use crate::Class;
 ghost use mathlib.Core.Path.{_≡_};
-ghost use mathlib.Core.Logic.{_⊎_};
 ghost use Prim.Native.Nat.{ℕ, _+_, _/_, _%_, _<_, _≤_};
 ghost use Rattle.arm.specs.Encodings.{encodingOf};
 ghost use Rattle.arm.specs.Deciding.{encodingAt};
