@@ -11,6 +11,7 @@ use lib.Dec.{ltb}
 use lib.ListN.{length, take, getD, length-take}
 use lib.Seq.{getD-take}
 use Rattle.lists.specs.declared.Found.the-variants.{At, Missing}
+use Rattle.lists.specs.declared.Key.{Key}
 use Rattle.lists.specs.declared.Key.the-variants.{Address, Nothing}
 use Rattle.lists.specs.Place.{pick, counted, place, heldAt, held, indexOf, atOrAbove, firstKey, lastKey}
 use Rattle.lists.specs.Order.{ascending}
@@ -46,6 +47,24 @@ index-missing keys count x e = step (held keys count x) e
     step : (t : Bool) → pick t (At (place keys count x)) Missing ≡ Missing → t ≡ false
     step true e = absurd (let z : _≡_ {A = ℕ} 0 1 = cc in omega arith)
     step false e = refl
+
+-- an address is held only where there is an entry
+some-held : (keys : List ℕ) (count x : ℕ) → held keys count x ≡ true → 0 < counted keys count
+some-held keys count x h = let within : place keys count x < counted keys count = held-at keys count x h .within in omega arith
+
+pub first-none : (keys : List ℕ) (count x : ℕ) → firstKey keys count ≡ Nothing → held keys count x ≡ true → ⊥
+unfolding firstKey
+first-none keys count x e h =
+    let none : _≡_ {A = Key} (Address (getD keys 0 0)) Nothing = rw (lt-ltb 0 (counted keys count) (some-held keys count x h)) at e in
+    let z : _≡_ {A = ℕ} 0 1 = cc in
+    omega arith
+
+pub last-none : (keys : List ℕ) (count x : ℕ) → lastKey keys count ≡ Nothing → held keys count x ≡ true → ⊥
+unfolding lastKey
+last-none keys count x e h =
+    let none : _≡_ {A = Key} (Address (getD keys (counted keys count - 1) 0)) Nothing = rw (lt-ltb 0 (counted keys count) (some-held keys count x h)) at e in
+    let z : _≡_ {A = ℕ} 0 1 = cc in
+    omega arith
 
 -- ---- a list in order
 

@@ -71,9 +71,8 @@ pub fn last(keys: &[u32], count: usize) -> Key
     ensures { λ r. ⌜ r ≡ lastKey (now (keys .entry)) count ⌝ }
 {
     let n = smaller(count, keys.len());
-    if 0 < n {
-        Key::Address(keys[n - 1])
-    } else {
-        Key::Nothing
+    if n == 0 {
+        return Key::Nothing;
     }
+    Key::Address(keys[n - 1])
 }
