@@ -1,0 +1,17 @@
+-- `calls::change` meets its contract, by its two tests. Assumes nothing.
+use borrow.Author.Tests.{lt-ltb, le-ltb, le-leb, lt-leb}
+use Rattle.calls.proofs.change.Statement.{statement}
+use Rattle.calls.proofs.change.Tie as tie
+
+returns : tie.Need-returns
+returns c = rw (le-leb _ _ (c .if1 .taken))
+
+returns-2 : tie.Need-returns-2
+returns-2 c = rw (lt-leb _ _ (c .before .if1 .left), lt-ltb _ _ (c .if2 .taken))
+
+returns-3 : tie.Need-returns-3
+returns-3 c = rw (lt-leb _ _ (c .before .if1 .left), le-ltb _ _ (c .if2 .left))
+
+pub change-spec : {M : Type 1} → statement M
+change-spec =
+    tie.close (tie.spec returns returns-2 returns-3)
