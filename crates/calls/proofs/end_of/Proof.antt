@@ -44,7 +44,7 @@ use denote.Exit.{yes}
 use Rattle.calls.specs.declared.Call.{Call}
 use Rattle.calls.specs.Fields.{none, addresses, endOf}
 use Rattle.calls.proofs.FieldLaws.{end-past, end-held, end-free}
-use Rattle.calls.proofs.Walk.{place-fits}
+use Rattle.calls.proofs.Walk.{word, half, mach, place-fits}
 use Rattle.calls.proofs.Call as T
 use Rattle.calls.proofs.Call.Laws as T′
 use Rattle.calls.proofs.end_of.Key.{name as #calls·end-of}
@@ -56,17 +56,8 @@ use Rattle.calls.proofs.end_of.Code.Mir as pieces
 abbrev stayed : Stays (end-of.ended .signature .params) (end-of.ended .kept)
 stayed = (stay-none-slice (0 ∷ []) tt (plain (λ _. T.the-row)) yes, (stay-none (λ _. usize) yes, (stay-none (λ _. usize) yes, (stay-none (λ _. u32) yes, tt))))
 
-abbrev word : Ty
-word = tyInt w64
-
-abbrev half : Ty
-half = tyInt w32
-
 abbrev slice : Ty
 slice = sliceTy (tyRef (named 0) imm (pointee (T.the-row .written)))
-
-abbrev mach : Call → Val
-mach h = LL.tuple-val T.the-type T′.the-laws (T.the-type .to h)
 
 module _ {M : Type 1} (𝓤 : URA M) (H : Heap 𝓤) (A : Atoms 𝓤) (W : Given 𝓤 H A) (mem : Memory → SProp 𝓤) (run : Routine → Fun 𝓤) (κ : Lft) (q : Share) (b o : ℕ) (γ : GName) (ys : List Call) (n p a : ℕ) (room : Room T.the-row (length ys)) (gn : n < 2 ^ 64) (gp : p < 2 ^ 64) (ga : a < 2 ^ 32) where
   abbrev ref : RefT (List Call)

@@ -54,7 +54,7 @@ use Rattle.lists.specs.Place.{place, counted}
 use Rattle.lists.proofs.PlaceLaws.{Left, left-start, left-up, left-down, left-end}
 use Rattle.calls.specs.Fields.{none, addresses}
 use Rattle.calls.proofs.FieldLaws.{at-column}
-use Rattle.calls.proofs.Walk.{place-fits, tests}
+use Rattle.calls.proofs.Walk.{word, half, place-fits, tests}
 use Rattle.calls.proofs.Call as T
 use Rattle.calls.proofs.Call.Laws as T′
 use Rattle.calls.proofs.find.Key.{name as #calls·find}
@@ -120,12 +120,6 @@ module _ (ys : List Call) (n a : ℕ) where
   start l = record { lo = 0; hi = n; meet = zero-le; within = le-refl n; left = subst (λ (h : ℕ). Left (addresses ys) a goal 0 h) (all-counted l) (left-start (addresses ys) n a) }
 
 -- ---- the walk
-abbrev word : Ty
-word = tyInt w64
-
-abbrev half : Ty
-half = tyInt w32
-
 abbrev slice : Ty
 slice = sliceTy (tyRef (named 0) imm (pointee (T.the-row .written)))
 

@@ -45,6 +45,7 @@ use Rattle.lists.specs.Place.{place}
 use Rattle.calls.specs.declared.Call.{Call}
 use Rattle.calls.specs.Fields.{addresses, endOf, ShiftedIn, Placed}
 use Rattle.calls.proofs.FieldLaws.{place-in, end-within, placed-shifted, placed-full}
+use Rattle.calls.proofs.Walk.{word, mach}
 use Rattle.calls.proofs.Call as T
 use Rattle.calls.proofs.Call.Laws as T′
 use Rattle.calls.proofs.Again.{LentAgain, lends-again, comes-back}
@@ -73,9 +74,6 @@ Arg = RefT (List Call) × (ℕ × (Call × Unit {0}))
 abbrev stayed : Stays (insert.ended .signature .params) (insert.ended .kept)
 stayed = (stay-slice (0 ∷ []) tt (plain (λ _. T.the-row)), (stay-none (λ _. usize) yes, (stay-none (λ _. T.the-row) yes, tt)))
 
-abbrev word : Ty
-word = tyInt w64
-
 abbrev lent : Ty
 lent = sliceTy (tyRef (named 0) mut (pointee (T.the-row .written)))
 
@@ -90,9 +88,6 @@ again = tyRef erased mut (pointee (T.the-row .written))
 
 abbrev againSlice : Ty
 againSlice = sliceTy again
-
-abbrev mach : Call → Val
-mach h = LL.tuple-val T.the-type T′.the-laws (T.the-type .to h)
 
 -- the contracts that the proof cites
 module _ {M : Type 1} (𝓤 : URA M) (H : Heap 𝓤) (A : Atoms 𝓤) (mem : Memory → SProp 𝓤) (run : Routine → Fun 𝓤) where

@@ -53,7 +53,7 @@ use Rattle.lists.specs.Columns.{shiftIn}
 use Rattle.lists.proofs.ColumnLaws.{shift-none, shift-set, shift-turn}
 use Rattle.lists.proofs.RowLaws.{map-set}
 use Rattle.calls.specs.Fields.{none, ShiftedIn}
-use Rattle.calls.proofs.Walk.{place-fits, tests}
+use Rattle.calls.proofs.Walk.{word, mach, place-fits, tests}
 use Rattle.calls.proofs.Call as T
 use Rattle.calls.proofs.Call.Laws as T′
 use Rattle.calls.proofs.shift_in.Key.{name as #calls·shift-in}
@@ -122,14 +122,8 @@ module _ (ys : List Call) (n at : ℕ) where
   }
 
 -- ---- the walk
-abbrev word : Ty
-word = tyInt w64
-
 abbrev slice : Ty
 slice = sliceTy (tyRef (named 0) mut (pointee (T.the-row .written)))
-
-abbrev mach : Call → Val
-mach h = LL.tuple-val T.the-type T′.the-laws (T.the-type .to h)
 
 module _ {M : Type 1} (𝓤 : URA M) (H : Heap 𝓤) (A : Atoms 𝓤) (W : Given 𝓤 H A) (mem : Memory → SProp 𝓤) (run : Routine → Fun 𝓤) (κ : Lft) (q : Share) (b o : ℕ) (γ : GName) (ys : List Call) (n at : ℕ) (c : Call) where
   abbrev x : List Call → RefT (List Call)
