@@ -303,9 +303,7 @@ def comparable(record, answer):
         amount = 2 * (word >> 8 & 15)
         byte = word & 255
         total = address + 0x108 - ((byte >> amount | byte << 32 - amount) & TOP)
-        return total < 0 or TOP < total + 0x100
-    if machine == 3 and tag == 1:
-        return b + c <= TOP
+        return total < 0 or TOP < total
     if machine == 3 and tag == 2:
         return a + b <= TOP
     if machine == 4 and tag == 0 and state[0] == 5:
