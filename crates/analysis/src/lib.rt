@@ -4,3 +4,4 @@ pub mod illegal_code;
 pub mod inline_table;
 pub mod jump_table;
 mod pattern;
+pub mod refusal;
