@@ -3,5 +3,5 @@ pub mod function_branch;
 pub mod illegal_code;
 pub mod inline_table;
 pub mod jump_table;
-mod pattern;
+pub mod pattern;
 pub mod refusal;

@@ -70,7 +70,7 @@ pub fn is_register(op2: Op2, register: u8) -> bool
     }
 }
 
-fn is_lsl(op: ShiftOp) -> bool
+pub fn is_lsl(op: ShiftOp) -> bool
     ensures { λ r. ⌜ r ≡ isLsl op ⌝ }
 {
     match op {

@@ -1,0 +1,57 @@
+-- The laws of the loops over the registers.
+-- Assumes nothing.
+use mathlib.Core.Path.{_≡_, refl, ap}
+use mathlib.Core.List.{List, [], _∷_, _++_}
+use Prim.Native.Nat.{ℕ, zero, suc, _+_, _-_, _/_, _%_, _≤_, _<_}
+use native.Mathlib.Nat.{le-of-suc-le-suc}
+use native.Mathlib.Omega.{arith}
+use borrow.Author.Tests.{eq-eqb, ne-eqb}
+use lib.ListN.{length, take, drop, set}
+use Rattle.registers.specs.Registers.{cleared, missingFrom}
+
+-- a column that is cleared before register r, once the rest of the set is cleared too
+abbrev pub half : ℕ → ℕ → List ℕ → List ℕ
+half r rest column = take r column ++ cleared rest (drop r column)
+
+-- one turn, where the register is in the set and where it is not, and the end
+pub half-in : (r rest : ℕ) (l : List ℕ) → r < length l → rest % 2 ≡ 1 → half (suc r) (rest / 2) (set l r 0) ≡ half r rest l
+unfolding cleared
+half-in r rest [] h e = absurd (omega arith)
+half-in zero rest (x ∷ l) h e = rw (eq-eqb (rest % 2) 1 e)
+half-in (suc r) rest (x ∷ l) h e = ap (λ (m : List ℕ). x ∷ m) (half-in r rest l (le-of-suc-le-suc h) e)
+
+pub half-out : (r rest : ℕ) (l : List ℕ) → r < length l → (rest % 2 ≡ 1 → ⊥) → half (suc r) (rest / 2) l ≡ half r rest l
+unfolding cleared
+half-out r rest [] h e = absurd (omega arith)
+half-out zero rest (x ∷ l) h e = rw (ne-eqb (rest % 2) 1 e)
+half-out (suc r) rest (x ∷ l) h e = ap (λ (m : List ℕ). x ∷ m) (half-out r rest l (le-of-suc-le-suc h) e)
+
+pub half-done : (r rest : ℕ) (l : List ℕ) → length l ≤ r → half r rest l ≡ l
+unfolding cleared
+half-done zero rest [] h = refl
+half-done (suc r) rest [] h = refl
+half-done zero rest (x ∷ l) h = absurd (omega arith)
+half-done (suc r) rest (x ∷ l) h = ap (λ (m : List ℕ). x ∷ m) (half-done r rest l (le-of-suc-le-suc h))
+
+-- the search from register r on: it ends at r, or goes on at the next, where r is not used or is defined
+module _ (r uses defined : ℕ) (h : r < 16) where
+  left : 16 - r ≡ suc (16 - (r + 1))
+  left = omega arith
+
+  pub missing-here : uses % 2 ≡ 1 → defined % 2 ≡ 0 → missingFrom (16 - r) r uses defined ≡ r
+  unfolding missingFrom
+  missing-here u d = rw (left, eq-eqb (uses % 2) 1 u, ne-eqb (defined % 2) 1 (λ e. omega arith))
+
+  pub missing-unused : (uses % 2 ≡ 1 → ⊥) → missingFrom (16 - r) r uses defined ≡ missingFrom (16 - (r + 1)) (r + 1) (uses / 2) (defined / 2)
+  unfolding missingFrom
+  missing-unused u = rw (left, ne-eqb (uses % 2) 1 u)
+
+  pub missing-defined : uses % 2 ≡ 1 → (defined % 2 ≡ 0 → ⊥)
+      → missingFrom (16 - r) r uses defined ≡ missingFrom (16 - (r + 1)) (r + 1) (uses / 2) (defined / 2)
+  unfolding missingFrom
+  missing-defined u d = rw (left, eq-eqb (uses % 2) 1 u, eq-eqb (defined % 2) 1 (omega arith))
+
+-- no register is left
+pub missing-none : (r uses defined : ℕ) → 16 ≤ r → missingFrom (16 - r) r uses defined ≡ 16
+unfolding missingFrom
+missing-none r uses defined h = let none : 16 - r ≡ 0 = omega arith in rw none
