@@ -1,0 +1,31 @@
+-- `lookups::last_of` meets its contract.
+-- Assumes nothing.
+use mathlib.Core.Path.{sym, _∙_}
+use borrow.Author.Needs.{needs}
+use Rattle.lookups.proofs.last_of.Statement.{statement}
+use Rattle.lookups.proofs.last_of.Tie as tie
+
+last-requires : tie.Need-last-requires
+last-requires c κs = search needs
+
+enum-known-address : tie.Need-enum-known-address
+enum-known-address c = search needs
+
+enum-told : tie.Need-enum-told
+enum-told c = search needs
+
+returns : tie.Need-returns
+returns c = rw (sym (c .before .before .before .last .ensures) ∙ c .before .address .given .1)
+
+returns-2 : tie.Need-returns-2
+returns-2 c = rw (sym (c .before .before .last .ensures) ∙ c .enum-told .given .1)
+
+pub last-of-spec : {M : Type 1} → statement M
+last-of-spec =
+    tie.close
+    (tie.spec
+    last-requires
+    enum-known-address
+    enum-told
+    returns
+    returns-2)
