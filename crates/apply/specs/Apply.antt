@@ -96,7 +96,7 @@ abbrev pub callPlan : Lists → Counts → ℕ → ℕ → ℕ → ℕ → Plan
 callPlan l n a w d m = planFor (l .calls ∷ l .words ∷ l .destinations ∷ l .modes ∷ []) (n .calls) (a ∷ w ∷ d ∷ m ∷ [])
 
 -- the lists after an edit
-abbrev pub listsAfter : Edit → Lists → Counts → Lists
+unfoldable pub listsAfter : Edit → Lists → Counts → Lists
 listsAfter Nothing l n = l
 listsAfter (Label a) l n =
     lists (stored (labelPlan l n a) (l .labels) a) (l .pools) (l .values) (l .marks) (l .jumps) (l .jumpSizes) (l .inlines) (l .inlineSizes) (l .calls) (l .words) (l .destinations) (l .modes)
@@ -111,7 +111,7 @@ listsAfter (InlineTable a s) l n =
 listsAfter (Call a w d m) l n =
     lists (l .labels) (l .pools) (l .values) (l .marks) (l .jumps) (l .jumpSizes) (l .inlines) (l .inlineSizes) (stored (callPlan l n a w d m) (l .calls) a) (stored (callPlan l n a w d m) (l .words) w) (stored (callPlan l n a w d m) (l .destinations) d) (stored (callPlan l n a w d m) (l .modes) m)
 
-abbrev pub appliedBy : Edit → Lists → Counts → Applied
+unfoldable pub appliedBy : Edit → Lists → Counts → Applied
 appliedBy Nothing l n = kept n
 appliedBy (Label a) l n = labelsCounted n (labelPlan l n a .how)
 appliedBy (Pool a v) l n = poolsCounted n (poolPlan l n a v .how)

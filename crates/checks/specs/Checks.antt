@@ -1,9 +1,8 @@
 -- Document 01's refusals 1 to 4: the number of the first check that fails, or 0.
-use Prim.Native.Nat.{ℕ, zero, suc, _+_, _-_, _%_}
+use Prim.Native.Nat.{ℕ, zero, suc, _+_, _%_}
 use mathlib.Core.Bool.{Bool, true, false}
 use mathlib.Core.List.{List, [], _∷_}
 use lib.Dec.{eqb, ltb, leb}
-use lib.ListN.{length, take}
 use Rattle.lists.specs.Place.{pick, held}
 use Rattle.lists.specs.Order.{ascending, inOrder}
 use Rattle.lookups.specs.Lookups.{lastOf}

@@ -1,5 +1,5 @@
 -- functions.rs: what a step looks up in the lists, over the columns and their counts.
-use Prim.Native.Nat.{ℕ, zero, suc, _+_, _^_, min}
+use Prim.Native.Nat.{ℕ, zero, suc, _+_}
 use mathlib.Core.Bool.{Bool, true, false}
 use mathlib.Core.List.{List, [], _∷_}
 use lib.Dec.{eqb, ltb, leb}

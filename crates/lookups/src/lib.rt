@@ -10,8 +10,6 @@ use walk::Data;
 use walk::Found;
 ghost use mathlib.Core.Path.{_≡_};
 ghost use Prim.Native.Nat.{_+_, _<_, _^_};
-ghost use Rattle.lists.specs.Place.{held, atOrAbove};
-ghost use Rattle.lists.specs.Run.{firstGap};
 ghost use Rattle.lookups.specs.Lookups.{tableEnd, holds, tableAt, dataAt, isAmong, labelAt, withMore, firstOf, lastOf, afterPools, lookedUp};
 
 // A table's end, or that it leaves 32 bits.

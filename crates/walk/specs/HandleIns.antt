@@ -37,7 +37,7 @@ module _ (o : Options) (w : Walk) (f : Found) (v : Seen) (word : ℕ) (i : Ins) 
   handleAt (EndsAt end) = record { edit = No-Edit; then = Skips end }
   handleAt Beyond = record { edit = No-Edit; then = Refuses 12 0 }
 
-  abbrev pub handleIns : Decision
+  unfoldable pub handleIns : Decision
   handleIns = handleAt (f .data)
 
 -- register_values: what is written is forgotten, then a pool load is held

@@ -7,7 +7,6 @@ use crate::Options;
 use crate::Progress;
 use crate::Record;
 use crate::Walk;
-use crate::decide::larger;
 use analysis::function_branch::FunctionBranchState;
 use analysis::illegal_code::IllegalCodeState;
 use analysis::inline_table::InlineTableState;
@@ -15,7 +14,7 @@ use analysis::jump_table::JumpTableStateArm;
 use predicates::Previous;
 use registers::Registers;
 ghost use mathlib.Core.Path.{_≡_};
-ghost use Prim.Native.Nat.{_+_, _<_, _^_};
+ghost use Prim.Native.Nat.{max};
 ghost use Rattle.walk.specs.IntoFunction.{begun, endOf, startOf, intoFunction};
 
 // r0 to r3 may be arguments, r10 and r11 are not always saved, r12 is scratch; SP, LR and PC.
@@ -53,20 +52,25 @@ pub fn new(start: u32, counts: Counts) -> Walk
     }
 }
 
-// The known end, or the larger of the last instruction's end and the last pool's.
-fn end_address(known_end: KnownEnd, last_instruction_end: u32, last_pool_address: u32) -> u32
-    requires { ⌜ «last_pool_address» + 4 < 2 ^ 32 ⌝ }
+// The known end, or the larger of the last instruction's end and the last pool's, which may leave 32 bits in a state that a host made up.
+fn end_address(known_end: KnownEnd, last_instruction_end: u32, last_pool_address: u32) -> u64
     ensures { λ r. ⌜ r ≡ endOf «known_end» «last_instruction_end» «last_pool_address» ⌝ }
 {
     match known_end {
-        KnownEnd::At(end) => end,
+        KnownEnd::At(end) => end as u64,
         KnownEnd::Nothing => {
             if last_pool_address == 0 {
-                return last_instruction_end;
+                return last_instruction_end as u64;
             }
-            larger(last_instruction_end, last_pool_address + 4)
+            larger(last_instruction_end as u64, last_pool_address as u64 + 4)
         }
     }
+}
+
+fn larger(a: u64, b: u64) -> u64
+    ensures { λ r. ⌜ r ≡ max a b ⌝ }
+{
+    if a < b { b } else { a }
 }
 
 // The first pool where that lies below the start.
@@ -91,12 +95,11 @@ pub fn into_function(
     last_pool_address: u32,
     first_pool: u32,
 ) -> Answer
-    requires { ⌜ «last_pool_address» + 4 < 2 ^ 32 ⌝ }
     ensures { λ r. ⌜ r ≡ intoFunction o start «last_instruction_end» «last_pool_address» «first_pool» ⌝ }
 {
     let known_end = o.known_end;
     let end = end_address(known_end, last_instruction_end, last_pool_address);
-    if o.module_end < end {
+    if (o.module_end as u64) < end {
         return Answer::Refused {
             number: 14,
             address: 0,
@@ -105,7 +108,7 @@ pub fn into_function(
     }
     Answer::Accepted(Record {
         start: start_address(start, first_pool),
-        end,
+        end: end as u32,
         first_instruction: start,
         last_instruction_end,
     })

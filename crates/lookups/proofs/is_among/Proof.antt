@@ -5,7 +5,7 @@ use Prim.Native.Nat.{_-_, _≤_}
 use native.Mathlib.Nat.{sub-zero}
 use native.Mathlib.Omega.{arith}
 use denote.Ref.{now}
-use lib.ListN.{length, drop}
+use lib.ListN.{drop}
 use Rattle.lookups.specs.Lookups.{isAmong}
 use Rattle.lookups.proofs.LookupLaws.{among-here, among-next, among-none, among-out}
 use Rattle.lookups.proofs.is_among.Statement.{statement}

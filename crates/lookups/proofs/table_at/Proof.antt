@@ -6,7 +6,7 @@ use native.Mathlib.Nat.{sub-zero}
 use native.Mathlib.Omega.{arith}
 use borrow.Author.Needs.{needs}
 use denote.Ref.{now}
-use lib.ListN.{length, drop}
+use lib.ListN.{drop}
 use Rattle.lookups.specs.Lookups.{tableAt}
 use Rattle.lookups.proofs.LookupLaws.{table-here, table-next, table-none, table-out, size-out}
 use Rattle.lookups.proofs.table_at.Statement.{statement}

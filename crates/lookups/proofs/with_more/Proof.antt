@@ -2,7 +2,6 @@
 -- Assumes nothing.
 use borrow.Author.Tests.{eq-eqb, le-ltb, lt-ltb, ne-eqb}
 use Rattle.lookups.specs.Lookups.{withMore}
-use borrow.Author.Needs.{needs}
 use Rattle.lookups.proofs.with_more.Statement.{statement}
 use Rattle.lookups.proofs.with_more.Tie as tie
 

@@ -1,4 +1,5 @@
 -- `handle_ins` meets its contract.
+use Rattle.walk.specs.HandleIns.{handleIns}
 use borrow.Author.Needs.{needs}
 use Rattle.walk.proofs.handle_ins.handle_ins.Statement.{statement}
 use Rattle.walk.proofs.handle_ins.handle_ins.Tie as tie
@@ -16,12 +17,15 @@ enum-told-2 : tie.Need-enum-told-2
 enum-told-2 c = search needs
 
 returns : tie.Need-returns
+unfolding handleIns
 returns c = rw (c .before .enum-told .given .1) (c .handle-code .ensures)
 
 returns-2 : tie.Need-returns-2
+unfolding handleIns
 returns-2 c = rw (c .before .«data» .given .1)
 
 returns-3 : tie.Need-returns-3
+unfolding handleIns
 returns-3 c = rw (c .enum-told2 .given .1)
 
 pub handle-ins-spec : {M : Type 1} → statement M
