@@ -1,15 +1,14 @@
 -- What an insertion's answer says of the count and of each column, and a found place of the list.
 -- Assumes nothing.
-use mathlib.Core.Path.{_≡_, refl, sym, _∙_}
+use mathlib.Core.Path.{_≡_, refl, sym}
 use mathlib.Core.Bool.{Bool, true, false}
-use mathlib.Core.List.{List, [], _∷_}
-use Prim.Native.Nat.{ℕ, _≤_, _<_}
+use mathlib.Core.List.{List, _∷_}
+use Prim.Native.Nat.{ℕ, _≤_}
 use native.Mathlib.Omega.{arith}
 use Rattle.lists.specs.Place.{pick, place, held, indexOf}
 use Rattle.lists.specs.Columns.{planFor, room}
 use Rattle.lists.specs.declared.Change.{Change}
 use Rattle.lists.specs.declared.Change.the-variants.{Added, Replaced, Full}
-use Rattle.lists.specs.declared.Found.{Found}
 use Rattle.lists.specs.declared.Found.the-variants.{At, Missing}
 use Rattle.lists.proofs.ColumnLaws.{added-fits}
 use Rattle.apply.specs.Apply.{Countable}

@@ -2,7 +2,7 @@
 use Prim.Native.Nat.{ℕ, _<_}
 use mathlib.Core.Bool.{Bool, true, false}
 use mathlib.Core.List.{List, [], _∷_}
-use lib.ListN.{length, getD, set, replicate}
+use lib.ListN.{length, set, replicate}
 use Rattle.lists.specs.Place.{pick, place, held}
 use Rattle.lists.specs.Columns.{planFor, stored, countAfter}
 use Rattle.lists.specs.declared.Change.{Change}

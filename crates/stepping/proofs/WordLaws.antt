@@ -10,7 +10,6 @@ use lib.ListN.{length, drop, getD, length-drop}
 use borrow.Author.Tests.{ltb-false}
 use Rattle.analysis.specs.Pattern.{pick}
 use Rattle.observe.specs.Observe.{wordFrom, firstWord, littleEndian}
-use Rattle.observe.specs.declared.Word.{Word}
 use Rattle.observe.specs.declared.Word.the-variants.{Found, Missing}
 
 pub found-inside : (code : List ℕ) (base a w : ℕ) → wordFrom code base a ≡ Found w → a + 4 ≤ base + length code

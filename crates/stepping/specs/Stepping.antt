@@ -9,7 +9,6 @@ use Rattle.lookups.specs.Lookups.{lookedUp, firstOf}
 use Rattle.observe.specs.declared.Word.{Word}
 use Rattle.observe.specs.declared.Word.the-variants.{Found as W-Found, Missing}
 use Rattle.observe.specs.Observe.{wordFrom, seen}
-use Rattle.walk.specs.declared.Decision.{Decision}
 use Rattle.walk.specs.declared.Found.{Found}
 use Rattle.walk.specs.declared.Options.{Options}
 use Rattle.walk.specs.declared.Seen.{Seen}

@@ -1,6 +1,6 @@
 -- check_defs_uses: registers that an instruction reads must have been defined.
 use Prim.Native.Nat.{ℕ}
-use mathlib.Core.Bool.{Bool, true, false, not}
+use mathlib.Core.Bool.{Bool, not}
 use lib.Bits.{bitOr}
 use Rattle.arm.specs.declared.Ins.{Ins}
 use Rattle.analysis.specs.Pattern.{pick, both}

@@ -1,7 +1,7 @@
 -- functions.rs: what `handle_ins_inner` and `handle_label` come to, in the source's order.
 use Prim.Native.Nat.{ℕ, _+_, max}
 use mathlib.Core.Bool.{Bool, true, false, not}
-use lib.Dec.{eqb, ltb, leb}
+use lib.Dec.{eqb, ltb}
 use Rattle.analysis.specs.Pattern.{pick, both}
 use Rattle.walk.specs.declared.AfterPools.{AfterPools}
 use Rattle.walk.specs.declared.AfterPools.the-variants.{At as P-At, Beyond as P-Beyond}
@@ -14,7 +14,6 @@ use Rattle.walk.specs.declared.Progress.{Progress}
 use Rattle.walk.specs.declared.Seen.{Seen}
 use Rattle.walk.specs.declared.Shape.{Shape}
 use Rattle.walk.specs.declared.Signs.{Signs}
-use Rattle.walk.specs.declared.Then.{Then}
 use Rattle.walk.specs.declared.Then.the-variants.{Goes, Ends, Refuses}
 use Rattle.walk.specs.declared.decide.Flow.{Flow}
 use Rattle.walk.specs.declared.decide.Flow.the-variants.{Returns, Enters, Label, Leaves, Calls, On}

@@ -1,6 +1,6 @@
 -- What a step inserts, place by place in the source's order. Each class of instructions inserts in one place only.
 use Prim.Native.Nat.{ℕ, _+_}
-use mathlib.Core.Bool.{Bool, true, false}
+use mathlib.Core.Bool.{Bool}
 use lib.Dec.{eqb, ltb, leb}
 use Rattle.analysis.specs.Pattern.{pick}
 use Rattle.predicates.specs.declared.Callee.{Callee}

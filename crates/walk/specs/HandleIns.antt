@@ -1,6 +1,6 @@
 -- functions.rs: `handle_ins` at a decoded instruction, over what the step looked up and saw; and the walk after it.
-use Prim.Native.Nat.{ℕ, _+_}
-use mathlib.Core.Bool.{Bool, true, false}
+use Prim.Native.Nat.{ℕ}
+use mathlib.Core.Bool.{Bool}
 use Rattle.arm.specs.declared.Ins.{Ins}
 use Rattle.analysis.specs.Pattern.{pick}
 use Rattle.predicates.specs.Predicates.{isBx, isReturn, isPoolLoad, poolAddress, asPrevious}

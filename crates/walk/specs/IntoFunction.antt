@@ -1,6 +1,6 @@
 -- functions.rs: `new`, `into_function`, and the start before a pool.
 use Prim.Native.Nat.{ℕ, _+_, max}
-use mathlib.Core.Bool.{Bool, true, false}
+use mathlib.Core.Bool.{false}
 use lib.Dec.{eqb, ltb}
 use lib.ListN.{replicate}
 use Rattle.analysis.specs.Pattern.{pick}

@@ -1,6 +1,6 @@
 -- How far a walk has come after a step that goes on: what the source's assignments leave, field by field.
 use Prim.Native.Nat.{ℕ, _+_, max}
-use mathlib.Core.Bool.{Bool, true, false}
+use mathlib.Core.Bool.{Bool, true}
 use lib.Dec.{eqb, ltb}
 use Rattle.analysis.specs.Pattern.{pick, both}
 use Rattle.predicates.specs.declared.Previous.{Previous}

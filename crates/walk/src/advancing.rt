@@ -2,7 +2,6 @@
 use crate::Edit;
 use crate::Machines;
 use crate::Signs;
-use analysis::function_branch::FunctionBranchState;
 use analysis::illegal_code::IllegalCodeState;
 use analysis::inline_table::FoundTable;
 use analysis::inline_table::InlineTableAnswer;

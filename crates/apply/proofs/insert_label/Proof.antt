@@ -1,7 +1,7 @@
 -- `insert_label` meets its contract.
 use native.Mathlib.Omega.{arith}
 use Rattle.lists.specs.Columns.{room, storedAll}
-use Rattle.apply.proofs.ApplyLaws.{countable, first-column, other-columns}
+use Rattle.apply.proofs.ApplyLaws.{countable, first-column}
 use borrow.Author.Needs.{needs}
 use Rattle.apply.proofs.insert_label.Statement.{statement}
 use Rattle.apply.proofs.insert_label.Tie as tie

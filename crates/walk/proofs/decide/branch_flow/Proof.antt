@@ -1,6 +1,5 @@
 -- `branch_flow` meets its contract.
 use Rattle.walk.specs.Decide.{branchFlow}
-use borrow.Author.Needs.{needs}
 use Rattle.walk.proofs.decide.branch_flow.Statement.{statement}
 use Rattle.walk.proofs.decide.branch_flow.Tie as tie
 

@@ -1,6 +1,5 @@
 -- `ends_at_return` meets its contract.
 use Rattle.walk.specs.Decide.{endsAtReturn}
-use borrow.Author.Needs.{needs}
 use Rattle.walk.proofs.decide.ends_at_return.Statement.{statement}
 use Rattle.walk.proofs.decide.ends_at_return.Tie as tie
 

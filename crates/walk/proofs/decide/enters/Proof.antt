@@ -1,7 +1,6 @@
 -- `enters` meets its contract.
 use borrow.Author.Tests.{le-ltb, lt-ltb}
 use Rattle.walk.specs.Decide.{enters}
-use borrow.Author.Needs.{needs}
 use Rattle.walk.proofs.decide.enters.Statement.{statement}
 use Rattle.walk.proofs.decide.enters.Tie as tie
 

@@ -1,6 +1,5 @@
 -- `flow_of` meets its contract.
 use Rattle.walk.specs.Decide.{flowOf}
-use borrow.Author.Needs.{needs}
 use Rattle.walk.proofs.decide.flow_of.Statement.{statement}
 use Rattle.walk.proofs.decide.flow_of.Tie as tie
 

@@ -1,7 +1,6 @@
 -- `in_module` meets its contract.
 use borrow.Author.Tests.{le-ltb, lt-ltb}
 use Rattle.walk.specs.Decide.{inModule}
-use borrow.Author.Needs.{needs}
 use Rattle.walk.proofs.decide.in_module.Statement.{statement}
 use Rattle.walk.proofs.decide.in_module.Tie as tie
 

@@ -1,7 +1,6 @@
 -- `in_program` meets its contract.
 use borrow.Author.Tests.{le-ltb, lt-ltb}
 use Rattle.walk.specs.Decide.{inProgram}
-use borrow.Author.Needs.{needs}
 use Rattle.walk.proofs.decide.in_program.Statement.{statement}
 use Rattle.walk.proofs.decide.in_program.Tie as tie
 

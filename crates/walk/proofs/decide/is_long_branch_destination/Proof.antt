@@ -1,7 +1,6 @@
 -- `is_long_branch_destination` meets its contract.
 use borrow.Author.Tests.{le-ltb, lt-ltb}
 use Rattle.walk.specs.Decide.{isLongBranchDestination}
-use borrow.Author.Needs.{needs}
 use Rattle.walk.proofs.decide.is_long_branch_destination.Statement.{statement}
 use Rattle.walk.proofs.decide.is_long_branch_destination.Tie as tie
 

@@ -1,6 +1,5 @@
 -- `is_other_function` meets its contract.
 use Rattle.walk.specs.Decide.{isOtherFunction}
-use borrow.Author.Needs.{needs}
 use Rattle.walk.proofs.decide.is_other_function.Statement.{statement}
 use Rattle.walk.proofs.decide.is_other_function.Tie as tie
 

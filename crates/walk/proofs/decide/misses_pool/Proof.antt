@@ -1,6 +1,5 @@
 -- `misses_pool` meets its contract.
 use Rattle.walk.specs.Decide.{missesPool}
-use borrow.Author.Needs.{needs}
 use Rattle.walk.proofs.decide.misses_pool.Statement.{statement}
 use Rattle.walk.proofs.decide.misses_pool.Tie as tie
 

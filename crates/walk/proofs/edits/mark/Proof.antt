@@ -1,7 +1,6 @@
 -- `mark` meets its contract.
 use borrow.Author.Tests.{eq-eqb, ne-eqb}
 use Rattle.walk.specs.Edits.{markOf}
-use borrow.Author.Needs.{needs}
 use Rattle.walk.proofs.edits.mark.Statement.{statement}
 use Rattle.walk.proofs.edits.mark.Tie as tie
 

@@ -1,6 +1,5 @@
 -- `pool_edit` meets its contract.
 use Rattle.walk.specs.Edits.{poolEdit}
-use borrow.Author.Needs.{needs}
 use Rattle.walk.proofs.edits.pool_edit.Statement.{statement}
 use Rattle.walk.proofs.edits.pool_edit.Tie as tie
 

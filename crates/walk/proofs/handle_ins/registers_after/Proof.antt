@@ -1,5 +1,4 @@
 -- `registers_after` meets its contract.
-use mathlib.Core.Path.{sym, _∙_}
 use Rattle.walk.specs.HandleIns.{registersAfter}
 use borrow.Author.Needs.{needs}
 use Rattle.walk.proofs.handle_ins.registers_after.Statement.{statement}

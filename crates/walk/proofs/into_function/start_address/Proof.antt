@@ -1,7 +1,6 @@
 -- `start_address` meets its contract.
 use borrow.Author.Tests.{eq-eqb, le-ltb, lt-ltb, ne-eqb}
 use Rattle.walk.specs.IntoFunction.{startOf}
-use borrow.Author.Needs.{needs}
 use Rattle.walk.proofs.into_function.start_address.Statement.{statement}
 use Rattle.walk.proofs.into_function.start_address.Tie as tie
 

@@ -1,6 +1,5 @@
 -- `raises_label` meets its contract.
 use Rattle.walk.specs.Moving.{raisesLabel}
-use borrow.Author.Needs.{needs}
 use Rattle.walk.proofs.moving.raises_label.Statement.{statement}
 use Rattle.walk.proofs.moving.raises_label.Tie as tie
 

@@ -1,6 +1,5 @@
 -- `table_end_after` meets its contract.
 use borrow.Author.Tests.{eq-eqb, ne-eqb}
-use borrow.Author.Needs.{needs}
 use Rattle.walk.proofs.moving.table_end_after.Statement.{statement}
 use Rattle.walk.proofs.moving.table_end_after.Tie as tie
 
