@@ -131,7 +131,7 @@ unfoldable pub editAfter : ℕ → Shape → ℕ → Edit → Edit → Edit
 editAfter address s value before inline = first (first (first before (poolEdit s value)) inline) (callEdit address s)
 
 module _ (o : Options) (p : Progress) (f : Found) (v : Seen) (s : Shape) (signs : Signs) (mark : Edit) (undefined : ℕ) where
-  abbrev decidedBy : Flow → Decision
+  abbrev pub decidedBy : Flow → Decision
   decidedBy flow =
       byFlow flow (onwardOf (p .address) (s .target) f) (p .address)
       (lateStop (s .«is_pool_load») (v .«has_pool») (signs .«is_inline_refused»))
