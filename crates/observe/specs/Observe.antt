@@ -1,4 +1,5 @@
--- What a step sees in the code, each part of it asked only where the source asks it.
+-- What a step sees in the code beside its own word: the word that a pool load reads, and the word behind a return that a long branch may
+-- pass. At a skip, and inside a conditional block, nothing depends on it.
 use Prim.Native.Nat.{ℕ, _+_, _-_, _*_}
 use mathlib.Core.Bool.{Bool, true, false}
 use mathlib.Core.List.{List}
