@@ -1,0 +1,29 @@
+-- `finish` meets its contract.
+use mathlib.Core.Path.{sym, _∙_}
+use Rattle.functions.specs.Calls.{finish}
+use borrow.Author.Needs.{needs}
+use Rattle.functions.proofs.finish.Statement.{statement}
+use Rattle.functions.proofs.finish.Tie as tie
+
+is-going-requires : tie.Need-is-going-requires
+is-going-requires c κs = search needs
+
+refused-requires : tie.Need-refused-requires
+refused-requires c κs = search needs
+
+returns : tie.Need-returns
+unfolding finish
+returns c = rw (sym (c .before .before .is-going .ensures) ∙ c .before .if1 .taken) (c .refused .ensures)
+
+returns-2 : tie.Need-returns-2
+unfolding finish
+returns-2 c = rw (sym (c .before .is-going .ensures) ∙ c .if1 .left)
+
+pub finish-spec : {M : Type 1} → statement M
+finish-spec =
+    tie.close
+    (tie.spec
+    is-going-requires
+    refused-requires
+    returns
+    returns-2)

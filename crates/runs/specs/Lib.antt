@@ -1,0 +1,2 @@
+-- The runs of the walk, and what their theorems say.
+pub mod Runs
