@@ -6,3 +6,4 @@ pub mod KeyLaws
 pub mod ColumnLaws
 pub mod InOrderLaws
 pub mod RunLaws
+pub mod ScanLaws

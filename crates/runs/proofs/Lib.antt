@@ -4,10 +4,8 @@ pub mod EditLaws
 pub mod DecisionLaws
 pub mod ValueLaws
 pub mod ListLaws
-pub mod CheckLaws
-pub mod ClassLaws
+pub mod LongerLaws
 pub mod SeenLaws
-pub mod EndLaws
 pub mod WalkLaws
 pub mod StepLaws
 pub mod StableLaws

@@ -41,8 +41,8 @@ use Rattle.walk.specs.Edits.{markOf}
 use Rattle.walk.specs.Decide.{endsAtReturn, enters, branchFlow, flowOf, flowAt, inConditionalBlock, stopOf, refuse, decidedBy, decided, goOn, lateStop, missesPool}
 use Rattle.walk.specs.HandleIns.{handleCode}
 use Rattle.runs.proofs.CodeLaws.{Inside, word-inside, inside-found, inside-longer, bytesFrom}
-use Rattle.runs.proofs.CheckLaws.{both-true, neither}
-use Rattle.runs.proofs.ClassLaws.{same, load-no-return, load-no-entry, load-no-branch}
+use Rattle.steps.proofs.CheckLaws.{both-true, neither}
+use Rattle.steps.proofs.ClassLaws.{same, load-no-return, load-no-entry, load-no-branch}
 use Rattle.runs.proofs.DecisionLaws.{reseen}
 
 abbrev pub isRefusal : Then → Bool

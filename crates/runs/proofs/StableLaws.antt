@@ -33,7 +33,8 @@ use Rattle.walk.specs.Moving.{skippedTo}
 use Rattle.walk.specs.IntoFunction.{begun, startOf, endOf, recordTo, intoFunction}
 use Rattle.functions.specs.Calls.{Run, refused, begin, settled, numberAt, step, finish}
 use Rattle.runs.specs.Runs.{Call, steps, finishes, afterCall, runFrom, run, Answers, here, later, Agree, SameLengths, Same, SameRuns, done, more, Keeps, Stable}
-use Rattle.runs.proofs.CheckLaws.{Passed, number-passed, passed-number, passed-longer, passed-begin, begin-longer}
+use Rattle.steps.proofs.CheckLaws.{Passed, number-passed, passed-number, passed-begin}
+use Rattle.runs.proofs.LongerLaws.{passed-longer, begin-longer}
 use Rattle.runs.proofs.DecisionLaws.{revalued}
 use Rattle.runs.proofs.ListLaws.{refilled}
 use Rattle.runs.proofs.StepLaws.{Alike, rises, walked-alike}

@@ -13,8 +13,8 @@ use Rattle.arm.specs.Ins.{decodeOf}
 use Rattle.analysis.specs.Pattern.{pick}
 use Rattle.apply.specs.Apply.{Lists, listsAfter, appliedBy}
 use Rattle.lists.specs.Order.{ascending, inOrder, allCleared}
-use Rattle.lookups.specs.Lookups.{lookedUp, firstOf, lastOf, labelAt}
-use Rattle.lookups.proofs.MoveLaws.{data-past, gap-past, label-past, more-past}
+use Rattle.lookups.specs.Lookups.{lookedUp, firstOf, lastOf}
+use Rattle.lookups.proofs.MoveLaws.{data-past}
 use Rattle.observe.specs.Observe.{wordFrom, seen, isEntryNext, asksNext}
 use Rattle.observe.specs.declared.Word.{Word}
 use Rattle.observe.specs.declared.Word.the-variants.{Found as W-Found, Missing}
@@ -35,10 +35,11 @@ use Rattle.walk.specs.HandleIns.{handleCode, handleAt, handleIns}
 use Rattle.walk.proofs.MoveLaws.{Ahead, moves-on}
 use Rattle.runs.specs.Runs.{Agree}
 use Rattle.runs.proofs.CodeLaws.{Inside, inside-found, same-word}
-use Rattle.runs.proofs.CheckLaws.{Passed, both-true}
+use Rattle.steps.proofs.CheckLaws.{Passed, both-true}
 use Rattle.runs.proofs.DecisionLaws.{reseen, revalued, AlikeDecision, code-alike}
 use Rattle.runs.proofs.EditLaws.{AlikeEdit, nothing}
-use Rattle.runs.proofs.EndLaws.{return-outcome, end-outcome, skip-outcome}
+use Rattle.steps.proofs.LabelLaws.{looked-ahead}
+use Rattle.steps.proofs.OutcomeLaws.{return-outcome, end-outcome, skip-outcome}
 use Rattle.runs.proofs.ListLaws.{refilled, applied-alike, lists-alike, fits-on, fits-off, follows-edit, lengths-alike}
 use Rattle.runs.proofs.SeenLaws.{isRefusal, load-refused, AlikeSeen, seen-alike, seen-inside, last-whole, next-alike, asked-return, asked-pool}
 use Rattle.runs.proofs.ValueLaws.{Follows, others-in-order}
@@ -66,11 +67,8 @@ module _ (o : Options) (w : Walk) (starts : List ℕ) (l : Lists) (word : ℕ) w
 
   -- labels and pools that are looked up lie ahead
   ahead : ascending (take (w .counts .labels) (l .labels)) ≡ true → Ahead (w .progress .address) foundOf
-  unfolding lookedUp
-  ahead order = record {
-    label = λ some. more-past (labelAt (l .labels) (w .counts .labels) (w .progress .address + 4)) (insOf .target) (w .progress .address + 4) (label-past (l .labels) (w .counts .labels) (w .progress .address + 4) order) some;
-    pools = λ g e. gap-past (l .pools) (w .counts .pools) (w .progress .address + 4) g e;
-  }
+  ahead order =
+      looked-ahead starts (l .labels) (l .pools) (l .inlines) (l .inlineSizes) (l .destinations) (w .counts) order (w .progress .address) (insOf .target)
 
   -- where it leads, if it is not refused
   module _ (order : ascending (take (w .counts .labels) (l .labels)) ≡ true) (code : List ℕ) where

@@ -30,7 +30,7 @@ not-true : (b : Bool) → not b ≡ true → b ≡ false
 not-true true e = absurd (let z : _≡_ {A = ℕ} 0 1 = cc in omega arith)
 not-true false e = refl
 
-entry-push : (i : Ins) → isEntryInstruction i ≡ true → is (i .class) Push ≡ true
+pub entry-push : (i : Ins) → isEntryInstruction i ≡ true → is (i .class) Push ≡ true
 unfolding isEntryInstruction
 entry-push i e = go (isConditional (i .cond)) e
   where

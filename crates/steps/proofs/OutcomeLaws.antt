@@ -25,7 +25,7 @@ use Rattle.walk.specs.declared.decide.Onward.the-variants.{To, End, Beyond}
 use Rattle.walk.specs.Asking.{shapeOf}
 use Rattle.walk.specs.Decide.{goOn, refuse, byFlow, decidedBy, decided, stopOf, flowAt, flowOf, enters, branchFlow, endsAtReturn, inConditionalBlock, onwardOf, lateStop, editBefore, editAfter}
 use Rattle.walk.specs.HandleIns.{handleCode}
-use Rattle.runs.proofs.ClassLaws.{same, entry-no-return}
+use Rattle.steps.proofs.ClassLaws.{same, entry-no-return}
 
 -- what a step at an instruction may come to: no skip; an end four bytes on, or at its own address where it enters the next function
 abbrev pub Outcome : ℕ → Bool → Then → Type 0

@@ -1,0 +1,2 @@
+-- The theorem that the definitions give the table.
+pub mod MarkedRuns

@@ -1,0 +1,165 @@
+-- Document 01's marked runs, C1 to C12, in its order.
+use Prim.Native.Nat.{ℕ, zero, suc, _/_, _%_}
+use mathlib.Core.Bool.{Bool, true, false}
+use mathlib.Core.List.{List, [], _∷_, map}
+use lib.ListN.{length, replicate}
+use Rattle.lists.specs.Rows.{fieldAt, padded}
+use Rattle.apply.specs.Apply.{Lists, lists}
+use Rattle.walk.specs.declared.Answer.{Answer}
+use Rattle.walk.specs.declared.Answer.the-variants.{Accepted, Refused}
+use Rattle.walk.specs.declared.Counts.{Counts}
+use Rattle.walk.specs.declared.KnownEnd.{KnownEnd}
+use Rattle.walk.specs.declared.KnownEnd.the-variants.{Nothing, At}
+use Rattle.walk.specs.declared.Options.{Options}
+use Rattle.walk.specs.Edits.{arm}
+use Rattle.functions.specs.Calls.{Run, begin, step, finish}
+
+-- a run of the table: its words and options, its answer, and the entries of each list
+pub record Marked : Type 0 where
+  pub words : List ℕ
+  pub base : ℕ
+  pub moduleEnd : ℕ
+  pub knownEnd : KnownEnd
+  pub check : Bool
+  pub answer : Answer
+  pub labels : List (List ℕ)
+  pub pools : List (List ℕ)
+  pub jumps : List (List ℕ)
+  pub inlines : List (List ℕ)
+  pub calls : List (List ℕ)
+
+abbrev pub run :
+    List ℕ → ℕ → ℕ → KnownEnd → Bool → Answer → List (List ℕ) → List (List ℕ) → List (List ℕ) → List (List ℕ) → List (List ℕ) → Marked
+run words base end known check answer labels pools jumps inlines calls = record {
+  words = words;
+  base = base;
+  moduleEnd = end;
+  knownEnd = known;
+  check = check;
+  answer = answer;
+  labels = labels;
+  pools = pools;
+  jumps = jumps;
+  inlines = inlines;
+  calls = calls;
+}
+
+-- a record from the start at 0x02000000, with its end and its last instruction's
+abbrev pub accepted : ℕ → ℕ → Answer
+accepted end last = Accepted (record { start = 0x0200_0000; end = end; «first_instruction» = 0x0200_0000; «last_instruction_end» = last })
+
+-- a pool's marks
+abbrev pub other : ℕ
+other = 0
+
+abbrev pub call : ℕ
+call = 1
+
+-- words, base, module end, known end, check, answer; then labels (address), pools (address, value, mark), jump tables and inline tables
+-- (address, size), calls (address, word, destination, mode). A refusal has its number, address and register.
+abbrev pub table : List Marked
+table =
+    -- C1
+    run (0xE59F_0000 ∷ 0xE12F_FF1E ∷ 0x1234_5678 ∷ []) 0x0200_0000 0x0200_000C Nothing false (accepted 0x0200_000C 0x0200_0008)
+    [] ((0x0200_0008 ∷ 0x1234_5678 ∷ other ∷ []) ∷ []) [] [] []
+    -- C2
+    ∷ run (0xE59F_0000 ∷ 0xE12F_FF1E ∷ 0x1234_5678 ∷ []) 0x0200_0000 0x0200_0008 Nothing false (Refused 14 0 0)
+    [] [] [] [] []
+    -- C3
+    ∷ run (0xE12F_FF1E ∷ []) 0x0200_0000 0x0200_0004 Nothing false (accepted 0x0200_0004 0x0200_0004)
+    [] [] [] [] []
+    -- C4
+    ∷ run [] 0x0200_0000 0x0200_0000 Nothing false (Refused 14 0 0)
+    [] [] [] [] []
+    -- C5
+    ∷ run (0xEAFF_FFFE ∷ []) 0x0200_0000 0x0200_0004 Nothing false (accepted 0x0200_0004 0x0200_0004)
+    [] [] [] [] []
+    -- C6
+    ∷ run (0x0AFF_FFFD ∷ []) 0x01FF_8000 0x01FF_8004 Nothing false (Refused 9 0x01FF_8000 0)
+    [] [] [] [] []
+    -- C7
+    ∷ run (0xEA00_003E ∷ 0xE12F_FF1E ∷ []) 0x0200_0000 0x0200_0008 Nothing false (accepted 0x0200_0008 0x0200_0008)
+    [] [] [] [] ((0x0200_0000 ∷ 0xEA00_003E ∷ 0x0200_0100 ∷ arm ∷ []) ∷ [])
+    -- C8
+    ∷ run (0xE350_0002 ∷ 0x908F_F100 ∷ 0xEA00_0002 ∷ 0xEA00_0001 ∷ 0xEA00_0000 ∷ 0xEAFF_FFFF ∷ 0xE12F_FF1E ∷ [])
+    0x0200_0000 0x0200_001C Nothing false (accepted 0x0200_001C 0x0200_001C)
+    ((0x0200_0018 ∷ []) ∷ []) [] ((0x0200_000C ∷ 12 ∷ []) ∷ []) [] []
+    -- C9
+    ∷ run (0xE59F_C000 ∷ 0xE12F_FF1C ∷ 0x0000_0000 ∷ []) 0x0200_0000 0x0200_000C Nothing false (accepted 0x0200_000C 0x0200_0008)
+    [] ((0x0200_0008 ∷ 0x0000_0000 ∷ call ∷ []) ∷ []) [] [] []
+    -- C10
+    ∷ run (0xE350_0000 ∷ 0xE350_0000 ∷ 0x908F_F100 ∷ 0xE12F_FF1E ∷ []) 0x0200_0000 0x0200_0010 Nothing false (accepted 0x0200_0010 0x0200_0010)
+    [] [] [] [] []
+    -- C11
+    ∷ run (0xE12F_FF1E ∷ []) 0x0200_0000 0x0200_0008 (At 0x0200_0008) false (accepted 0x0200_0008 0x0200_0004)
+    [] [] [] [] []
+    -- C12, check off
+    ∷ run (0xE1A0_0004 ∷ 0xE12F_FF1E ∷ []) 0x0200_0000 0x0200_0008 Nothing false (accepted 0x0200_0008 0x0200_0008)
+    [] [] [] [] []
+    -- C12, check on
+    ∷ run (0xE1A0_0004 ∷ 0xE12F_FF1E ∷ []) 0x0200_0000 0x0200_0008 Nothing true (Refused 11 0x0200_0000 4)
+    [] [] [] [] []
+    ∷ []
+
+-- code, four bytes to a word, the lowest first
+unfoldable pub bytes : List ℕ → List ℕ
+bytes [] = []
+bytes (w ∷ ws) = w % 0x100 ∷ w / 0x100 % 0x100 ∷ w / 0x1_0000 % 0x100 ∷ w / 0x100_0000 ∷ bytes ws
+
+-- the module starts at base
+abbrev pub optionsOf : Marked → Options
+optionsOf m = record { base = m .base; «module_start» = m .base; «module_end» = m .moduleEnd; «known_end» = m .knownEnd; check = m .check }
+
+-- lists of four places, which hold something before the begin
+abbrev pub some : List ℕ
+some = replicate 4 7
+
+abbrev pub lent : Lists
+lent = lists some some some some some some some some some some some some
+
+abbrev pub lentCounts : Counts
+lentCounts = record { labels = 3; pools = 3; «jump_tables» = 3; «inline_tables» = 3; calls = 3 }
+
+-- so many steps
+unfoldable pub steps : ℕ → Options → List ℕ → Run → Run
+steps zero o code r = r
+steps (suc n) o code r = steps n o code (step o (r .walk) code [] (r .lists))
+
+-- begin, and one step more than there are words
+abbrev pub begins : Marked → Run
+begins m = begin (optionsOf m) (m .base) (length (bytes (m .words))) [] lentCounts lent
+
+unfoldable pub ran : Marked → Run
+ran m = steps (suc (length (m .words))) (optionsOf m) (bytes (m .words)) (begins m)
+
+-- what is compared: finish's answer, and every list with its count
+pub record Outcome : Type 0 where
+  pub answer : Answer
+  pub lists : Lists
+  pub counts : Counts
+
+abbrev pub outcome : Run → Outcome
+outcome r = record { answer = finish (r .walk); lists = r .lists; counts = r .walk .counts }
+
+unfoldable pub given : Marked → Outcome
+given m = outcome (ran m)
+
+-- a column of the entries' fields, and zeros after them
+abbrev pub column : ℕ → List (List ℕ) → List ℕ
+column j rows = padded 4 (map (fieldAt j) rows)
+
+unfoldable pub expected : Marked → Outcome
+expected m = record {
+  answer = m .answer;
+  lists =
+      lists (column 0 (m .labels)) (column 0 (m .pools)) (column 1 (m .pools)) (column 2 (m .pools))
+      (column 0 (m .jumps)) (column 1 (m .jumps)) (column 0 (m .inlines)) (column 1 (m .inlines))
+      (column 0 (m .calls)) (column 1 (m .calls)) (column 2 (m .calls)) (column 3 (m .calls));
+  counts = record {
+    labels = length (m .labels);
+    pools = length (m .pools);
+    «jump_tables» = length (m .jumps);
+    «inline_tables» = length (m .inlines);
+    calls = length (m .calls);
+  };
+}

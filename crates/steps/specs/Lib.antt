@@ -1,0 +1,3 @@
+-- The places where a step inserts; the steps that find a word.
+pub mod Places
+pub mod WordSteps
