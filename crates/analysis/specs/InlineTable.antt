@@ -7,7 +7,6 @@ use Rattle.arm.specs.declared.Class.the-variants.{Sub, Ldrb}
 use Rattle.arm.specs.declared.Ins.{Ins}
 use Rattle.arm.specs.declared.Op2.{Op2}
 use Rattle.arm.specs.declared.Op2.the-variants.{Imm, ShiftImm, ShiftReg}
-use Rattle.analysis.specs.declared.inline_table.InlineTable.{InlineTable}
 use Rattle.analysis.specs.declared.inline_table.InlineTableState.{InlineTableState}
 use Rattle.analysis.specs.declared.inline_table.InlineTableState.the-variants.{Start, SubPc, ValidTable}
 use Rattle.analysis.specs.declared.inline_table.InlineTableAnswer.{InlineTableAnswer}

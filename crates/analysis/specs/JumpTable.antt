@@ -7,7 +7,6 @@ use Rattle.arm.specs.declared.Class.the-variants.{Cmp, Add, B, Pop}
 use Rattle.arm.specs.declared.Ins.{Ins}
 use Rattle.arm.specs.declared.Op2.{Op2}
 use Rattle.arm.specs.declared.Op2.the-variants.{Imm, ShiftImm, ShiftReg}
-use Rattle.analysis.specs.declared.jump_table.JumpTable.{JumpTable}
 use Rattle.analysis.specs.declared.jump_table.JumpTableStateArm.{JumpTableStateArm}
 use Rattle.analysis.specs.declared.jump_table.JumpTableStateArm.the-variants.{CmpReg, JumpOrBranchSigned, SignedBaseline, JumpSigned, JumpAfterReturn, ValidJumpTable}
 use Rattle.analysis.specs.declared.jump_table.JumpTableAnswer.{JumpTableAnswer}

@@ -1,7 +1,7 @@
 -- A class and a form are known by their place in their declaration, and what holds at each of a `match` arm's places holds in that arm.
 use mathlib.Core.Path.{_≡_, refl, ap, _∙_, sym}
 use mathlib.Core.List.{List, [], _∷_, map}
-use mathlib.Core.Logic.{_⊎_, inl, inr}
+use mathlib.Core.Logic.{inl, inr}
 use Prim.Native.Nat.{ℕ}
 use lib.ListN.{getD}
 use lib.Dec.{T, eqb, eqb→eq}

@@ -6,7 +6,7 @@ use Prim.Native.Nat.{ℕ, zero, suc, _+_, _/_, _%_, _<_, _≤_}
 use native.Mathlib.Omega.{arith}
 use native.Mathlib.Nat.{eq-or-lt-of-le}
 use lib.Dec.{T, leb, eqb}
-use mathlib.Core.Logic.{⊎-elim, _⊎_}
+use mathlib.Core.Logic.{⊎-elim}
 use borrow.Author.Tests.{le-leb}
 use Rattle.arm.specs.declared.Class.{Class}
 use Rattle.arm.specs.declared.Class.the-variants.{Illegal}

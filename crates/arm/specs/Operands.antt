@@ -1,7 +1,7 @@
 -- Operands by the manual's addressing modes (chapter A5).
 use Prim.Native.Nat.{ℕ, _*_, _/_, _%_, _^_}
-use mathlib.Core.Bool.{Bool, true, false}
-use mathlib.Core.List.{List, [], _∷_}
+use mathlib.Core.Bool.{true, false}
+use mathlib.Core.List.{[], _∷_}
 use lib.Dec.{eqb}
 use lib.ListN.{getD}
 use Rattle.arm.specs.declared.ShiftOp.{ShiftOp}

@@ -48,10 +48,11 @@ inOrders labels pools values marks jumps jumpSizes inlines inlineSizes calls wor
     (inOrder (calls ∷ words ∷ destinations ∷ modes ∷ []) (n .calls))
     false) false) false) false
 
--- each of the first n pools lies wholly in the code
+-- a pool lies wholly in the code
 unfoldable pub isWhole : ℕ → ℕ → ℕ → Bool
 isWhole base length pool = pick (ltb pool base) false (leb (pool + 4) (base + length))
 
+-- so does each of the first n
 unfoldable pub areWhole : ℕ → ℕ → ℕ → List ℕ → Bool
 areWhole base length zero pools = true
 areWhole base length (suc n) [] = true

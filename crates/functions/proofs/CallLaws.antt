@@ -1,11 +1,11 @@
 -- The parts of each call, put together, are the call.
 -- Assumes nothing.
-use mathlib.Core.Path.{_≡_, refl, sym, _∙_}
+use mathlib.Core.Path.{_≡_, refl, sym}
 use mathlib.Core.Bool.{Bool, true, false}
 use mathlib.Core.List.{List}
 use Prim.Native.Nat.{ℕ, _+_, _≤_}
 use native.Mathlib.Omega.{arith}
-use lib.Dec.{ltb, leb, eqb}
+use lib.Dec.{ltb, leb}
 use lib.ListN.{length}
 use borrow.Author.Tests.{eq-eqb, ne-eqb, ltb-false}
 use Rattle.lists.specs.Place.{pick}
@@ -22,7 +22,7 @@ use Rattle.walk.specs.declared.Progress.{Progress}
 use Rattle.walk.specs.declared.Walk.{Walk}
 use Rattle.walk.specs.IntoFunction.{begun}
 use Rattle.functions.specs.declared.Stepped.{Stepped}
-use Rattle.functions.specs.Calls.{Run, Called, refused, begin, settled, step, numberAt}
+use Rattle.functions.specs.Calls.{Called, refused, begin, settled, step, numberAt}
 
 -- a window that passed ends at or below 0x03000000
 module _ (o : Options) (n : ℕ) where

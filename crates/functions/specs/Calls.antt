@@ -1,17 +1,16 @@
--- Document 01: begin, step and finish. Each gives its answer, the walk that it hands back, and every list after it.
+-- Document 01: begin, step and finish: what each answers, and the walk and the lists that begin and step leave.
 use Prim.Native.Nat.{ℕ}
 use mathlib.Core.Path.{_≡_}
-use mathlib.Core.Bool.{Bool, true, false}
 use mathlib.Core.List.{List}
 use lib.Dec.{eqb}
 use lib.ListN.{length}
-use Rattle.lists.specs.Place.{pick, choose}
+use Rattle.lists.specs.Place.{pick}
 use Rattle.apply.specs.Apply.{Lists, allZero, noCounts}
 use Rattle.checks.specs.Checks.{beginNo, stepNo, inOrders}
 use Rattle.stepping.specs.Outcome.{isGoing, isRefused}
 use Rattle.stepping.specs.Stepping.{State, walked}
 use Rattle.walk.specs.declared.Answer.{Answer}
-use Rattle.walk.specs.declared.Answer.the-variants.{Going, Accepted, Refused}
+use Rattle.walk.specs.declared.Answer.the-variants.{Going, Refused}
 use Rattle.walk.specs.declared.Counts.{Counts}
 use Rattle.walk.specs.declared.Options.{Options}
 use Rattle.walk.specs.declared.Walk.{Walk}

@@ -1,4 +1,4 @@
-// The function walk over a module's code, call by call: `begin`, then `step` until it answers, and `finish`.
+// The function walk over a module's code, call by call: `begin`, then `step` until its answer is not `Going`, and `finish`.
 use stepping::outcome;
 use walk::Answer;
 use walk::Counts;
@@ -12,7 +12,7 @@ ghost use Prim.Native.Nat.{_+_, _≤_};
 ghost use Rattle.stepping.specs.Stepping.{walked};
 ghost use Rattle.functions.specs.Calls.{Called, begin, step, finish, settled, refused};
 
-// What a call answers, with the walk that it leaves.
+// What a call answers, with the walk that it leaves. A pool's mark is 1 for a call and 0 for others; a call's mode is 0 for ARM and 1 for Thumb.
 pub struct Stepped {
     pub walk: Walk,
     pub answer: Answer,
@@ -28,6 +28,7 @@ fn refused(number: u8) -> Answer
     }
 }
 
+// A walk from a start. Where the checks pass, every list is empty after it. A list's count comes back in the walk.
 pub fn begin(
     o: Options,
     start: u32,
@@ -139,6 +140,7 @@ fn settle(
     }
 }
 
+// One instruction, or one piece of data skipped. The checks are made anew, since a host may have written to the lists or the walk.
 pub fn step(
     o: Options,
     w: Walk,
@@ -220,6 +222,7 @@ pub fn step(
     }
 }
 
+// The walk's result, once it has one.
 pub fn finish(w: Walk) -> Answer
     ensures { λ r. ⌜ r ≡ finish w ⌝ }
 {

@@ -1,6 +1,6 @@
 -- One pass over a list in order, from an address on: it meets each held address of the run, and what it passes lies below.
 -- Assumes nothing.
-use mathlib.Core.Path.{_≡_, refl, sym, ap, _∙_}
+use mathlib.Core.Path.{_≡_, refl}
 use mathlib.Core.Bool.{Bool, true, false}
 use mathlib.Core.List.{List}
 use Prim.Native.Nat.{ℕ, _+_, _^_, _≤_, _<_}
@@ -13,7 +13,7 @@ use Rattle.lists.specs.Place.{counted, place, held}
 use Rattle.lists.specs.Run.{firstGap}
 use Rattle.lists.specs.declared.Gap.the-variants.{At, Beyond}
 use Rattle.lists.proofs.KeyLaws.{StandsAt, held-at, place-at, at-held}
-use Rattle.lists.proofs.PlaceLaws.{Placed, placed}
+use Rattle.lists.proofs.PlaceLaws.{placed}
 use Rattle.lists.proofs.RunLaws.{Going, going-start, going-on, going-beyond, going-end}
 
 -- what is left of the run, from x on, leads to the same answer, and the keys before a place lie below x

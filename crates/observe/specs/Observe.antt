@@ -1,5 +1,5 @@
 -- What a step sees in the code beside its own word: the word that a pool load reads, and the word behind a return that a long branch may
--- pass. At a skip, and inside a conditional block, nothing depends on it.
+-- pass. At a skip nothing depends on either, and in a conditional block nothing on the word behind a return.
 use Prim.Native.Nat.{ℕ, _+_, _-_, _*_}
 use mathlib.Core.Bool.{Bool, true, false}
 use mathlib.Core.List.{List}
@@ -27,7 +27,7 @@ unfoldable pub wordFrom : List ℕ → ℕ → ℕ → Word
 wordFrom code base a =
     pick (ltb a base) Missing (pick (ltb (length code) (a - base)) Missing (firstWord (drop (a - base) code)))
 
--- what is_long_branch_destination asks before it looks at the next word
+-- a return, and what is_long_branch_destination asks before it looks at the next word
 unfoldable pub asksNext : Progress → Bool → Ins → Bool
 asksNext p isCalled i =
     both (isReturn (p .address) i (p .previous)) (both (ltb (p .address + 4) (p .«last_pool_address»)) isCalled)

@@ -1,6 +1,6 @@
 -- The words of two codes that agree, one at least as long as the other.
 -- Assumes nothing.
-use mathlib.Core.Path.{_≡_, refl, sym, ap, _∙_}
+use mathlib.Core.Path.{_≡_, refl}
 use mathlib.Core.Bool.{Bool, true, false}
 use mathlib.Core.List.{List}
 use Prim.Native.Nat.{ℕ, _+_, _-_, _≤_, _<_}
@@ -11,7 +11,6 @@ use lib.Seq.{getD-drop}
 use borrow.Author.Tests.{ltb-false, le-ltb}
 use Rattle.analysis.specs.Pattern.{pick}
 use Rattle.observe.specs.Observe.{wordFrom, firstWord, littleEndian}
-use Rattle.observe.specs.declared.Word.{Word}
 use Rattle.observe.specs.declared.Word.the-variants.{Found, Missing}
 use Rattle.runs.specs.Runs.{Agree}
 
@@ -19,7 +18,7 @@ use Rattle.runs.specs.Runs.{Agree}
 abbrev pub bytesFrom : List ℕ → ℕ → ℕ
 bytesFrom code k = littleEndian (getD code (k + 0) 0) (getD code (k + 1) 0) (getD code (k + 2) 0) (getD code (k + 3) 0)
 
--- a word is found exactly where its four bytes are in the code
+-- the four bytes at an address are in the code: just then there is a word
 pub record Inside (code : List ℕ) (base a : ℕ) : Type 0 where
   pub low : base ≤ a
   pub high : a + 4 ≤ base + length code

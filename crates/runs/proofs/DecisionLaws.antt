@@ -29,7 +29,7 @@ use Rattle.walk.specs.Asking.{shapeOf}
 use Rattle.walk.specs.Advancing.{signsOf}
 use Rattle.walk.specs.Checking.{undefinedRegister}
 use Rattle.walk.specs.Edits.{markOf}
-use Rattle.walk.specs.Decide.{goOn, refuse, atLabel, byFlow, editBefore, editAfter, decidedBy, decided, stopOf, flowAt, inConditionalBlock, onwardOf, lateStop}
+use Rattle.walk.specs.Decide.{goOn, refuse, byFlow, editBefore, editAfter, decidedBy, decided, stopOf, flowAt, inConditionalBlock, onwardOf, lateStop}
 use Rattle.walk.specs.HandleIns.{handleCode}
 use Rattle.runs.proofs.EditLaws.{AlikeEdit, nothing, first-alike, jump-alike, inline-alike, mark-alike, branch-alike, pool-alike, call-alike}
 

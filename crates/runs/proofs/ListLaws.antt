@@ -1,13 +1,13 @@
 -- An edit in the lists of two runs, which differ in their pools' values alone.
 -- Assumes nothing.
-use mathlib.Core.Path.{_≡_, refl, sym, ap, _∙_}
-use mathlib.Core.Bool.{Bool, true, false}
+use mathlib.Core.Path.{_≡_, refl}
+use mathlib.Core.Bool.{true, false}
 use mathlib.Core.List.{List, [], _∷_}
 use Prim.Native.Nat.{ℕ}
 use native.Mathlib.Omega.{arith}
 use lib.ListN.{length, length-append, length-take, length-drop, length-set}
 use Rattle.apply.specs.Apply.{Lists, lists, listsAfter, appliedBy, isFull, labelsCounted, poolsCounted, jumpTablesCounted, inlineTablesCounted, callsCounted, poolPlan}
-use Rattle.lists.specs.Columns.{planFor, stored, storedBy, shiftIn, countAfter, room}
+use Rattle.lists.specs.Columns.{planFor, stored, storedBy, shiftIn, room}
 use Rattle.lists.specs.Order.{inOrder}
 use Rattle.lists.specs.declared.Change.{Change}
 use Rattle.lists.specs.declared.Change.the-variants.{Added, Replaced, Full}
@@ -41,7 +41,7 @@ module _ (c d : List ℕ) (base : ℕ) (l : Lists) (x : List ℕ) (long : length
   applied-alike (inline a s) = refl
   applied-alike (call a w t m) = refl
 
-  -- a plan keeps columns of equal length so
+  -- columns of equal length keep that through an insert
   stored-length : (plan : Plan) (y z : List ℕ) (v t : ℕ) → length y ≡ length z → length (stored plan y v) ≡ length (stored plan z t)
   unfolding stored storedBy shiftIn
   stored-length plan y z v t e = go (plan .how)

@@ -1,27 +1,25 @@
 -- What a step sees beside its own word: a pool load that is not refused finds its word in both codes, and the word behind a return is asked
 -- for only where the last pool lies above it.
 -- Assumes nothing.
-use mathlib.Core.Path.{_≡_, refl, sym, ap, _∙_}
+use mathlib.Core.Path.{_≡_, refl}
 use mathlib.Core.Bool.{Bool, true, false}
 use mathlib.Core.List.{List, [], _∷_}
 use Prim.Native.Nat.{ℕ, zero, suc, _+_, _-_, _≤_, _<_}
 use native.Mathlib.Nat.{not-suc-le-zero, le-of-suc-le-suc}
 use native.Mathlib.Omega.{arith}
-use lib.Dec.{eqb, ltb, leb}
+use lib.Dec.{eqb, ltb}
 use lib.ListN.{length, getD}
-use borrow.Author.Tests.{eqb-true, ltb-true, ltb-false, leb-true}
+use borrow.Author.Tests.{ltb-true, leb-true}
 use Rattle.arm.specs.declared.Ins.{Ins}
 use Rattle.analysis.specs.Pattern.{pick, both}
 use Rattle.checks.specs.Checks.{isWhole, areWhole}
 use Rattle.lists.specs.Place.{counted, lastKey}
-use Rattle.lists.specs.declared.Key.{Key}
 use Rattle.lists.specs.declared.Key.the-variants.{Address, Nothing as No-Key}
 use Rattle.lookups.specs.Lookups.{lastOf, keyOr0}
-use Rattle.observe.specs.Observe.{wordFrom, asksNext, isEntryWord, isEntryAt, isEntryNext, poolWord, seenWith, seen}
+use Rattle.observe.specs.Observe.{wordFrom, asksNext, isEntryWord, isEntryAt, isEntryNext, poolWord, seen}
 use Rattle.observe.specs.declared.Word.{Word}
 use Rattle.observe.specs.declared.Word.the-variants.{Found as W-Found, Missing}
-use Rattle.predicates.specs.Predicates.{isReturn, isPoolLoad, poolAddress, isBx}
-use Rattle.registers.specs.Registers.{sourceOf}
+use Rattle.predicates.specs.Predicates.{isReturn, isPoolLoad, poolAddress}
 use Rattle.walk.specs.declared.Edit.{Edit}
 use Rattle.walk.specs.declared.Found.{Found}
 use Rattle.walk.specs.declared.Options.{Options}
@@ -33,11 +31,8 @@ use Rattle.walk.specs.declared.Then.{Then}
 use Rattle.walk.specs.declared.Then.the-variants.{Skips, Goes, Ends, Refuses}
 use Rattle.walk.specs.declared.Walk.{Walk}
 use Rattle.walk.specs.declared.decide.Flow.{Flow}
-use Rattle.walk.specs.declared.decide.Flow.the-variants.{Returns, Enters, Label, Leaves, Calls, On}
+use Rattle.walk.specs.declared.decide.Flow.the-variants.{On}
 use Rattle.walk.specs.Asking.{shapeOf}
-use Rattle.walk.specs.Advancing.{signsOf}
-use Rattle.walk.specs.Checking.{undefinedRegister}
-use Rattle.walk.specs.Edits.{markOf}
 use Rattle.walk.specs.Decide.{endsAtReturn, enters, branchFlow, flowOf, flowAt, inConditionalBlock, stopOf, refuse, decidedBy, decided, goOn, lateStop, missesPool}
 use Rattle.walk.specs.HandleIns.{handleCode}
 use Rattle.runs.proofs.CodeLaws.{Inside, word-inside, inside-found, inside-longer, bytesFrom}

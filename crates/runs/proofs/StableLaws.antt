@@ -17,7 +17,7 @@ use Rattle.observe.specs.declared.Word.the-variants.{Found as W-Found, Missing}
 use Rattle.observe.specs.Observe.{wordFrom}
 use Rattle.arm.specs.declared.Ins.{Ins}
 use Rattle.stepping.specs.Outcome.{isGoing, isRefused, endedAt, refusedAt, noEpilogue, countedTo, afterThen, afterApplied}
-use Rattle.stepping.specs.Stepping.{State, walked, walkedAt, walkedWord, lookedAt, changed}
+use Rattle.stepping.specs.Stepping.{walked, walkedAt, walkedWord, lookedAt, changed}
 use Rattle.walk.specs.declared.Answer.{Answer}
 use Rattle.walk.specs.declared.Answer.the-variants.{Going, Accepted, Refused}
 use Rattle.walk.specs.declared.Counts.{Counts}
@@ -30,14 +30,14 @@ use Rattle.walk.specs.declared.Then.the-variants.{Skips, Goes, Ends, Refuses}
 use Rattle.walk.specs.declared.Walk.{Walk}
 use Rattle.walk.specs.HandleIns.{goneTo, skippedPast}
 use Rattle.walk.specs.Moving.{skippedTo}
-use Rattle.walk.specs.IntoFunction.{begun, startOf, endOf, recordTo, intoFunction}
+use Rattle.walk.specs.IntoFunction.{begun, startOf, endOf, intoFunction}
 use Rattle.functions.specs.Calls.{Run, refused, begin, settled, numberAt, step, finish}
-use Rattle.runs.specs.Runs.{Call, steps, finishes, afterCall, runFrom, run, Answers, here, later, Agree, SameLengths, Same, SameRuns, done, more, Keeps, Stable}
+use Rattle.runs.specs.Runs.{Call, steps, finishes, afterCall, runFrom, run, Answers, here, later, Agree, SameLengths, Same, SameRuns, done, more, Stable}
 use Rattle.steps.proofs.CheckLaws.{Passed, number-passed, passed-number, passed-begin}
 use Rattle.runs.proofs.LongerLaws.{passed-longer, begin-longer}
 use Rattle.runs.proofs.DecisionLaws.{revalued}
 use Rattle.runs.proofs.ListLaws.{refilled}
-use Rattle.runs.proofs.StepLaws.{Alike, rises, walked-alike}
+use Rattle.runs.proofs.StepLaws.{rises, walked-alike}
 use Rattle.runs.proofs.ValueLaws.{Follows, zeros-follow, follows-valued, others-in-order}
 
 -- ---- the end that a step finds is the record's last instruction end
@@ -127,7 +127,7 @@ module _ (o : Options) (starts c : List ℕ) (r : Record) where
     says : x .answer ≡ Accepted r → x .walk .result ≡ Accepted r
     ends : x .walk .result ≡ Accepted r → x .walk .progress .address ≡ r .«last_instruction_end»
 
-  finish-honest : (x : Run) → Honest x → Honest (afterCall o starts c finishes x)
+  finish-honest : (x : Run) → Honest x → Honest (afterCall o c starts finishes x)
   unfolding finish
   finish-honest x h = record { says = go (x .walk .result); ends = h .ends }
     where
@@ -166,13 +166,13 @@ module _ (o : Options) (starts c : List ℕ) (r : Record) where
         go false q e f next = next
 
   -- a run that answers with the record comes to it
-  answers-reach : (ks : List Call) (x : Run) → Honest x → Answers r (runFrom o starts c x ks) → Reaches o starts c r (x .walk) (x .lists)
+  answers-reach : (ks : List Call) (x : Run) → Honest x → Answers r (runFrom o c starts x ks) → Reaches o starts c r (x .walk) (x .lists)
   unfolding runFrom
   answers-reach [] x h (here e) = ended (h .says e) (h .ends (h .says e))
   answers-reach (k ∷ ks) x h (here e) = ended (h .says e) (h .ends (h .says e))
   answers-reach (steps ∷ ks) x h (later a) =
       step-reaches (x .walk) (x .lists) (answers-reach ks (step o (x .walk) c starts (x .lists)) (step-honest (x .walk) (x .lists) (h .ends)) a)
-  answers-reach (finishes ∷ ks) x h (later a) = answers-reach ks (afterCall o starts c finishes x) (finish-honest x h) a
+  answers-reach (finishes ∷ ks) x h (later a) = answers-reach ks (afterCall o c starts finishes x) (finish-honest x h) a
 
 -- ---- the same run on both codes
 
@@ -201,8 +201,8 @@ module _ (o : Options) (starts c d : List ℕ) (longer : length c ≤ length d) 
     words = refl;
     destinations = refl;
     modes = refl;
-    valuesOn = follows-valued c (o .base) l (w .counts .pools) (t .on);
-    valuesOff = follows-valued d (o .base) (refilled v l) (w .counts .pools) (t .off);
+    firstValues = follows-valued c (o .base) l (w .counts .pools) (t .on);
+    secondValues = follows-valued d (o .base) (refilled v l) (w .counts .pools) (t .off);
   }
 
   -- the second run passes the checks that the first has passed
@@ -213,13 +213,13 @@ module _ (o : Options) (starts c d : List ℕ) (longer : length c ≤ length d) 
       p
 
   same-runs : (ks : List Call) (w : Walk) (l : Lists) (u v : List ℕ) (a : Answer) → Twin w l v → Reaches o starts c r w l
-      → SameRuns c d (o .base) (runFrom o starts c (record { walk = w; lists = l; answer = a }) ks) (runFrom o starts d (record { walk = revalued u w; lists = refilled v l; answer = a }) ks)
+      → SameRuns c d (o .base) (runFrom o c starts (record { walk = w; lists = l; answer = a }) ks) (runFrom o d starts (record { walk = revalued u w; lists = refilled v l; answer = a }) ks)
   unfolding runFrom finish
   same-runs [] w l u v a t reach = more (twin-same w l u v a t) done
   same-runs (finishes ∷ ks) w l u v a t reach = more (twin-same w l u v a t) (same-runs ks w l u v (finish w) t reach)
   same-runs (steps ∷ ks) w l u v a t (ended e at) =
       let over : isGoing (w .result) ≡ false = rw e in
-      let rest : SameRuns c d (o .base) (runFrom o starts c (step o w c starts l) ks) (runFrom o starts d (step o (revalued u w) d starts (refilled v l)) ks) =
+      let rest : SameRuns c d (o .base) (runFrom o c starts (step o w c starts l) ks) (runFrom o d starts (step o (revalued u w) d starts (refilled v l)) ks) =
       rw (step-over o w c starts l over, step-over o (revalued u w) d starts (refilled v l) over) (same-runs ks w l u v (w .result) t (ended e at)) in
       more (twin-same w l u v a t) rest
   same-runs (steps ∷ ks) w l u v a t (goes g p next) =
@@ -229,7 +229,7 @@ module _ (o : Options) (starts c d : List ℕ) (longer : length c ≤ length d) 
       let walks = same .walks .is in
       let other-kept : isRefused (walked o (revalued u w) d starts (refilled v l) .walk .result) ≡ false = rw walks kept in
       let low = t .above in
-      let rest : SameRuns c d (o .base) (runFrom o starts c (step o w c starts l) ks) (runFrom o starts d (step o (revalued u w) d starts (refilled v l)) ks) =
+      let rest : SameRuns c d (o .base) (runFrom o c starts (step o w c starts l) ks) (runFrom o d starts (step o (revalued u w) d starts (refilled v l)) ks) =
       rw (step-on o w c starts l g p kept, step-on o (revalued u w) d starts (refilled v l) g (other-passed w l u v t p) other-kept, walks, same .lists)
       (same-runs ks (walked o w c starts l .walk) (walked o w c starts l .lists) (same .walks .values) (walked o (revalued u w) d starts (refilled v l) .lists .values) (walked o w c starts l .walk .result)
       (record { above = omega arith; long = same .long; on = same .on; off = same .off })
@@ -314,7 +314,7 @@ stable o start starts c d longer fits n₀ l₀ ks₀ r answers agree = record {
 }
   where
     alike : (n n' : Counts) (l m : Lists) → SameLengths l₀ l → SameLengths l₀ m → (ks : List Call)
-        → SameRuns c d (o .base) (runFrom o starts c (begin o start (length c) starts n l) ks) (runFrom o starts d (begin o start (length d) starts n' m) ks)
+        → SameRuns c d (o .base) (runFrom o c starts (begin o start (length c) starts n l) ks) (runFrom o d starts (begin o start (length d) starts n' m) ks)
     alike n n' l m long-l long-m ks =
         let reach = begin-reaches o starts c start n₀ l₀ r (answers-reach o starts c r ks₀ (begin o start (length c) starts n₀ l₀) (begin-honest o starts c start n₀ l₀ r) answers) in
         let passes = reach .0 in

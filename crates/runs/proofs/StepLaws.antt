@@ -1,30 +1,28 @@
--- One step on two codes that agree up to four bytes past where it leads: the same, but for the pools' values and the values in registers.
+-- One step that passed the checks and is not refused, on two codes that agree up to four bytes past where it leads: the same, but for the
+-- pools' values and the values in registers.
 -- Assumes nothing.
 use mathlib.Core.Path.{_≡_, refl, sym, ap, _∙_, subst, subst⁻¹}
-use mathlib.Core.Bool.{Bool, true, false}
-use mathlib.Core.List.{List, [], _∷_}
+use mathlib.Core.Bool.{true, false}
+use mathlib.Core.List.{List}
 use Prim.Native.Nat.{ℕ, _+_, _≤_, _<_}
 use native.Mathlib.Omega.{arith}
-use lib.Dec.{ltb}
 use lib.ListN.{length, take}
 use borrow.Author.Tests.{eqb-true, ltb-false}
 use Rattle.arm.specs.declared.Ins.{Ins}
 use Rattle.arm.specs.Ins.{decodeOf}
-use Rattle.analysis.specs.Pattern.{pick}
 use Rattle.apply.specs.Apply.{Lists, listsAfter, appliedBy}
-use Rattle.lists.specs.Order.{ascending, inOrder, allCleared}
+use Rattle.lists.specs.Order.{ascending, inOrder}
 use Rattle.lookups.specs.Lookups.{lookedUp, firstOf, lastOf}
 use Rattle.lookups.proofs.MoveLaws.{data-past}
-use Rattle.observe.specs.Observe.{wordFrom, seen, isEntryNext, asksNext}
+use Rattle.observe.specs.Observe.{wordFrom, seen, asksNext}
 use Rattle.observe.specs.declared.Word.{Word}
 use Rattle.observe.specs.declared.Word.the-variants.{Found as W-Found, Missing}
-use Rattle.predicates.specs.Predicates.{isReturn, isPoolLoad, poolAddress}
+use Rattle.predicates.specs.Predicates.{isReturn, isPoolLoad}
 use Rattle.stepping.specs.Outcome.{isRefused, afterApplied, noEpilogue, endedAt}
 use Rattle.stepping.specs.Stepping.{State, walked, walkedAt, walkedWord, lookedAt, changed}
 use Rattle.walk.specs.declared.Data.{Data}
 use Rattle.walk.specs.declared.Data.the-variants.{Nothing, EndsAt, Beyond}
 use Rattle.walk.specs.declared.Decision.{Decision}
-use Rattle.walk.specs.declared.Edit.the-variants.{Nothing as No-Edit}
 use Rattle.walk.specs.declared.Found.{Found}
 use Rattle.walk.specs.declared.Options.{Options}
 use Rattle.walk.specs.declared.Seen.{Seen}
@@ -34,15 +32,15 @@ use Rattle.walk.specs.declared.Walk.{Walk}
 use Rattle.walk.specs.HandleIns.{handleCode, handleAt, handleIns}
 use Rattle.walk.proofs.MoveLaws.{Ahead, moves-on}
 use Rattle.runs.specs.Runs.{Agree}
-use Rattle.runs.proofs.CodeLaws.{Inside, inside-found, same-word}
+use Rattle.runs.proofs.CodeLaws.{inside-found, same-word}
 use Rattle.steps.proofs.CheckLaws.{Passed, both-true}
 use Rattle.runs.proofs.DecisionLaws.{reseen, revalued, AlikeDecision, code-alike}
-use Rattle.runs.proofs.EditLaws.{AlikeEdit, nothing}
+use Rattle.runs.proofs.EditLaws.{nothing}
 use Rattle.steps.proofs.LabelLaws.{looked-ahead}
 use Rattle.steps.proofs.OutcomeLaws.{return-outcome, end-outcome, skip-outcome}
 use Rattle.runs.proofs.ListLaws.{refilled, applied-alike, lists-alike, fits-on, fits-off, follows-edit, lengths-alike}
 use Rattle.runs.proofs.SeenLaws.{isRefusal, load-refused, AlikeSeen, seen-alike, seen-inside, last-whole, next-alike, asked-return, asked-pool}
-use Rattle.runs.proofs.ValueLaws.{Follows, others-in-order}
+use Rattle.runs.proofs.ValueLaws.{Follows}
 use Rattle.runs.proofs.WalkLaws.{AlikeWalk, applied-walk-alike, kept-place, kept-then, kept-counts, kept-address, leadsTo}
 
 -- where there is no data

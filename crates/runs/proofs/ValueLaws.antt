@@ -1,6 +1,6 @@
 -- The pools' values: each is the word at its address, and stays so through an insert.
 -- Assumes nothing.
-use mathlib.Core.Path.{_≡_, refl, sym, ap, _∙_}
+use mathlib.Core.Path.{_≡_, refl, ap, _∙_}
 use mathlib.Core.Bool.{Bool, true, false}
 use mathlib.Core.List.{List, [], _∷_, map}
 use Prim.Native.Nat.{ℕ, zero, suc, _-_, _≤_, _<_}
@@ -96,6 +96,7 @@ module _ (code : List ℕ) (base : ℕ) where
             column-getD (f .column) i (omega arith) ∙ map-at valueAt (take n (l .pools)) i (omega arith) in
             rw (value, ← same) (all-at HasWord (take n (l .pools)) i (f .words) (omega arith));
         zeros = λ i h. column-rest (f .column) i (omega arith);
+        fits = let room = f .column .fits in omega arith;
       }
 
   -- columns in order whose second is another that follows from the first

@@ -1,6 +1,6 @@
 -- The walk after a step on two codes: the same but for the values in registers. And what a step that is not refused has found.
 -- Assumes nothing.
-use mathlib.Core.Path.{_≡_, refl, sym, ap, _∙_}
+use mathlib.Core.Path.{_≡_, refl, ap}
 use mathlib.Core.Bool.{Bool, true, false}
 use mathlib.Core.List.{List}
 use Prim.Native.Nat.{ℕ}
@@ -22,7 +22,6 @@ use Rattle.walk.specs.declared.Walk.{Walk}
 use Rattle.walk.specs.Decide.{flowAt}
 use Rattle.walk.specs.Moving.{progressAfter, conditionalAfter, skippedTo}
 use Rattle.walk.specs.HandleIns.{registersAfter, goneTo, skippedPast}
-use Rattle.walk.specs.IntoFunction.{intoFunction}
 use Rattle.runs.proofs.DecisionLaws.{reseen, revalued}
 use Rattle.runs.proofs.SeenLaws.{isRefusal}
 

@@ -7,7 +7,6 @@ use lib.ListN.{length, getD}
 use Rattle.apply.specs.Apply.{Lists}
 use Rattle.observe.specs.declared.Word.the-variants.{Found}
 use Rattle.observe.specs.Observe.{wordFrom}
-use Rattle.walk.specs.declared.Answer.{Answer}
 use Rattle.walk.specs.declared.Answer.the-variants.{Accepted}
 use Rattle.walk.specs.declared.Counts.{Counts}
 use Rattle.walk.specs.declared.Options.{Options}
@@ -18,7 +17,7 @@ pub data Call : Type 0 where
   steps : Call
   finishes : Call
 
-module _ (o : Options) (starts code : List ℕ) where
+module _ (o : Options) (code starts : List ℕ) where
   abbrev pub afterCall : Call → Run → Run
   afterCall steps r = step o (r .walk) code starts (r .lists)
   afterCall finishes r = record { walk = r .walk; lists = r .lists; answer = finish (r .walk) }
@@ -37,7 +36,7 @@ pub data Answers (r : Record) : List Run → Type 0 where
   here : {x : Run} {xs : List Run} → x .answer ≡ Accepted r → Answers r (x ∷ xs)
   later : {x : Run} {xs : List Run} → Answers r xs → Answers r (x ∷ xs)
 
--- two codes agree at each address from one to another that the first has
+-- two codes agree at each address that the first has, at or above one address and below another
 pub record Agree (c d : List ℕ) (base from to : ℕ) : Type 0 where
   pub at : (a : ℕ) → base ≤ a → from ≤ a → a < to → a < base + length c → getD c (a - base) 0 ≡ getD d (a - base) 0
 
@@ -60,6 +59,7 @@ pub record SameLengths (l m : Lists) : Type 0 where
 pub record Valued (code : List ℕ) (base n : ℕ) (l : Lists) : Type 0 where
   pub words : (i : ℕ) → i < n → wordFrom code base (getD (l .pools) i 0) ≡ Found (getD (l .values) i 0)
   pub zeros : (i : ℕ) → n ≤ i → getD (l .values) i 0 ≡ 0
+  pub fits : n ≤ length (l .values)
 
 -- equal answers, counts and entries, but that a pool's value is the word in that run's own code
 pub record Same (c d : List ℕ) (base : ℕ) (x y : Run) : Type 0 where
@@ -76,8 +76,8 @@ pub record Same (c d : List ℕ) (base : ℕ) (x y : Run) : Type 0 where
   pub words : x .lists .words ≡ y .lists .words
   pub destinations : x .lists .destinations ≡ y .lists .destinations
   pub modes : x .lists .modes ≡ y .lists .modes
-  pub valuesOn : Valued c base (x .walk .counts .pools) (x .lists)
-  pub valuesOff : Valued d base (y .walk .counts .pools) (y .lists)
+  pub firstValues : Valued c base (x .walk .counts .pools) (x .lists)
+  pub secondValues : Valued d base (y .walk .counts .pools) (y .lists)
 
 -- call by call
 pub data SameRuns (c d : List ℕ) (base : ℕ) : List Run → List Run → Type 0 where
@@ -86,19 +86,20 @@ pub data SameRuns (c d : List ℕ) (base : ℕ) : List Run → List Run → Type
 
 -- what must hold of two codes, where a run on the first answers with the record: a run on the second answers with it too, and every run
 -- on either, with lists of these lengths that hold anything, gives the same
-pub record Keeps (o : Options) (start : ℕ) (starts c d : List ℕ) (lent : Lists) (ks₀ : List Call) (r : Record) : Type 0 where
-  pub accepted : (n : Counts) (l : Lists) → SameLengths lent l → Answers r (run o starts d start n l ks₀)
+pub record Keeps (o : Options) (start : ℕ) (starts c d : List ℕ) (lent : Lists) (calls : List Call) (r : Record) : Type 0 where
+  pub accepted : (n : Counts) (l : Lists) → SameLengths lent l → Answers r (run o d starts start n l calls)
   pub same : (n n' : Counts) (l m : Lists) → SameLengths lent l → SameLengths lent m → (ks : List Call)
-      → SameRuns c d (o .base) (run o starts c start n l ks) (run o starts d start n' m ks)
+      → SameRuns c d (o .base) (run o c starts start n l ks) (run o d starts start n' m ks)
 
--- demand 3: an accepted start stays accepted with the same record, and every run from it gives the same answers and lists, on any code at
--- least as long that agrees from the start to four bytes past the last instruction's end
+-- demand 3: an accepted start stays accepted with the same record, and every run from it gives the same answers and lists (pool values
+-- aside), on any code in the program's range that is at least as long and agrees, where the first code has bytes, from the start to four
+-- bytes past the last instruction's end
 abbrev pub Stable : Type 0
 Stable =
     (o : Options) (start : ℕ) (starts c d : List ℕ)
     → length c ≤ length d
     → o .base + length d ≤ 0x0300_0000
-    → (n : Counts) (l : Lists) (ks : List Call) (r : Record)
-    → Answers r (run o starts c start n l ks)
+    → (n : Counts) (lent : Lists) (calls : List Call) (r : Record)
+    → Answers r (run o c starts start n lent calls)
     → Agree c d (o .base) start (r .«last_instruction_end» + 4)
-    → Keeps o start starts c d l ks r
+    → Keeps o start starts c d lent calls r

@@ -17,7 +17,7 @@ use Rattle.arm.specs.declared.Ins.{Ins}
 use Rattle.arm.specs.Class.{classNo, is}
 use Rattle.arm.specs.Ins.{isConditional}
 use Rattle.predicates.specs.declared.Previous.{Previous}
-use Rattle.predicates.specs.Predicates.{isBx, isMovPc, isLdmPc, isPopPc, isBranchBack, isSubsPcLr, isLdrPc, isEorPc, isAddPc, isReturn, isReturnAlways, isReturnAfter, isEntryInstruction, isBranch, isLslByNumber, hasLr}
+use Rattle.predicates.specs.Predicates.{isBx, isMovPc, isLdmPc, isPopPc, isBranchBack, isSubsPcLr, isLdrPc, isEorPc, isAddPc, isReturn, isReturnAlways, isReturnAfter, isEntryInstruction, isBranch, isLslByNumber}
 use Rattle.walk.specs.declared.Counts.{Counts}
 use Rattle.walk.specs.declared.Data.{Data}
 use Rattle.walk.specs.declared.Data.the-variants.{Nothing as No-Data, EndsAt, Beyond as D-Beyond}

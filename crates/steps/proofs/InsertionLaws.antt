@@ -20,7 +20,7 @@ use Rattle.analysis.specs.declared.jump_table.JumpTableAnswer.the-variants.{Nex
 use Rattle.analysis.specs.declared.jump_table.TableEnd.{TableEnd}
 use Rattle.analysis.specs.declared.jump_table.TableEnd.the-variants.{At as E-At, Nothing as E-Nothing, Refused as E-Refused}
 use Rattle.analysis.specs.InlineTable.{aheadOf, tableAddress, subFrom, subPcOf, isTableLoad, inlineTable}
-use Rattle.analysis.specs.JumpTable.{jumpTable, inState, checkStart, compared, isJump, isLimit, found, jumpOrBranch, signedBaseline, isZeroLimit, jumpAt, validTable, tableEnd}
+use Rattle.analysis.specs.JumpTable.{jumpTable, inState, checkStart, compared, isJump, isLimit, jumpOrBranch, signedBaseline, isZeroLimit, jumpAt, validTable, tableEnd}
 use Rattle.arm.specs.declared.Class.{Class}
 use Rattle.arm.specs.declared.Class.the-variants.{Add, B, Bl, Blx1, Bx, Ldr, Ldrb, Pop, Sub}
 use Rattle.arm.specs.declared.Ins.{Ins}

@@ -1,6 +1,6 @@
 -- Where a step ends the walk: at its own address, or four bytes on; four bytes on where the instruction is a return.
 -- Assumes nothing.
-use mathlib.Core.Path.{_≡_, refl, sym, ap, _∙_}
+use mathlib.Core.Path.{_≡_, refl}
 use mathlib.Core.Bool.{Bool, true, false}
 use Prim.Native.Nat.{ℕ, _+_, _≤_}
 use native.Mathlib.Omega.{arith}
@@ -23,9 +23,9 @@ use Rattle.walk.specs.declared.decide.Flow.the-variants.{Returns, Enters, Label
 use Rattle.walk.specs.declared.decide.Onward.{Onward}
 use Rattle.walk.specs.declared.decide.Onward.the-variants.{To, End, Beyond}
 use Rattle.walk.specs.Asking.{shapeOf}
-use Rattle.walk.specs.Decide.{goOn, refuse, byFlow, decidedBy, decided, stopOf, flowAt, flowOf, enters, branchFlow, endsAtReturn, inConditionalBlock, onwardOf, lateStop, editBefore, editAfter}
+use Rattle.walk.specs.Decide.{goOn, refuse, byFlow, decidedBy, decided, stopOf, flowAt, flowOf, enters, branchFlow, inConditionalBlock, onwardOf, lateStop, editBefore, editAfter}
 use Rattle.walk.specs.HandleIns.{handleCode}
-use Rattle.steps.proofs.ClassLaws.{same, entry-no-return}
+use Rattle.steps.proofs.ClassLaws.{entry-no-return}
 
 -- what a step at an instruction may come to: no skip; an end four bytes on, or at its own address where it enters the next function
 abbrev pub Outcome : ℕ → Bool → Then → Type 0

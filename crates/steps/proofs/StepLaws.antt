@@ -2,8 +2,8 @@
 -- Assumes nothing.
 use mathlib.Core.Path.{_≡_, refl}
 use mathlib.Core.Bool.{Bool, true, false}
-use mathlib.Core.List.{List, [], _∷_}
-use Prim.Native.Nat.{ℕ, zero, suc, _+_, _-_, _%_, _≤_, _<_, max}
+use mathlib.Core.List.{List}
+use Prim.Native.Nat.{ℕ, zero, suc, _+_, _-_, _≤_, _<_, max}
 use native.Mathlib.Omega.{arith}
 use borrow.Author.Tests.{eqb-true, ltb-false}
 use lib.Dec.{eqb, ltb}

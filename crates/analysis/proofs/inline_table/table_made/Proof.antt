@@ -1,5 +1,5 @@
 -- `table_made` meets its contract.
-use borrow.Author.Tests.{eq-eqb, ne-eqb, lt-ltb, le-ltb}
+use borrow.Author.Tests.{lt-ltb, le-ltb}
 use Rattle.analysis.specs.InlineTable.{tableMade}
 use borrow.Author.Needs.{needs}
 use Rattle.analysis.proofs.inline_table.table_made.Statement.{statement}

@@ -1,5 +1,5 @@
 -- `valid_table` meets its contract.
-use borrow.Author.Tests.{eq-eqb, ne-eqb, lt-ltb, le-ltb}
+use borrow.Author.Tests.{lt-ltb, le-ltb}
 use Rattle.analysis.specs.JumpTable.{validTable}
 use borrow.Author.Needs.{needs}
 use Rattle.analysis.proofs.jump_table.valid_table.Statement.{statement}

@@ -1,7 +1,7 @@
 -- `registers` meets its contract: what each callee ensures of its share.
 use native.Mathlib.Omega.{arith}
 use borrow.Author.Needs.{needs}
-use mathlib.Core.Logic.{⊎-elim, _⊎_, inl, inr}
+use mathlib.Core.Logic.{⊎-elim, inl, inr}
 use mathlib.Core.Path.{_≡_}
 use Rattle.arm.proofs.encoding.registers.Statement.{statement}
 use Rattle.arm.proofs.encoding.registers.Tie as tie

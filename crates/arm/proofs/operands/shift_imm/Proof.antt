@@ -1,5 +1,4 @@
 -- `shift_imm` meets its contract, by the amount field.
-use mathlib.Core.Path.{sym, _∙_, ap, refl}
 use Rattle.arm.specs.Operands.{shiftImmOf}
 use borrow.Author.Tests.{eq-eqb, ne-eqb}
 use borrow.Author.Needs.{needs}

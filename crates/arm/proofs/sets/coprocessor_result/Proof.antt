@@ -1,7 +1,6 @@
 -- `coprocessor_result` meets its contract, by Rd.
 use borrow.Author.Tests.{eq-eqb, ne-eqb}
 use Rattle.arm.specs.Sets.{coprocessorResultSet}
-use mathlib.Core.Path.{sym, _∙_, ap, refl}
 use borrow.Author.Needs.{needs}
 use Rattle.arm.proofs.sets.coprocessor_result.Statement.{statement}
 use Rattle.arm.proofs.sets.coprocessor_result.Tie as tie

@@ -1,5 +1,5 @@
 -- `indexed` meets its contract, by bit 24.
-use mathlib.Core.Path.{sym, _∙_, ap, refl}
+use mathlib.Core.Path.{_∙_}
 use Rattle.arm.proofs.Choice.{if-yes, if-no}
 use Rattle.arm.specs.Sets.{indexedSet}
 use borrow.Author.Needs.{needs}

@@ -1,5 +1,5 @@
 -- `offset2` meets its contract, by bit 25.
-use mathlib.Core.Path.{sym, _∙_, ap, refl}
+use mathlib.Core.Path.{_∙_}
 use Rattle.arm.proofs.Choice.{if-yes, if-no}
 use Rattle.arm.specs.Sets.{offset2Set}
 use borrow.Author.Needs.{needs}

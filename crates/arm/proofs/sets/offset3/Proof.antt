@@ -1,5 +1,5 @@
 -- `offset3` meets its contract, by bit 22.
-use mathlib.Core.Path.{sym, _∙_, ap, refl}
+use mathlib.Core.Path.{_∙_}
 use Rattle.arm.proofs.Choice.{if-yes, if-no}
 use Rattle.arm.specs.Sets.{offset3Set}
 use borrow.Author.Needs.{needs}

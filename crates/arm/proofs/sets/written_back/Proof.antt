@@ -1,5 +1,5 @@
 -- `written_back` meets its contract, by bit 21.
-use mathlib.Core.Path.{sym, _∙_, ap, refl}
+use mathlib.Core.Path.{_∙_}
 use Rattle.arm.proofs.Choice.{if-yes, if-no}
 use Rattle.arm.specs.Sets.{writtenBackSet}
 use borrow.Author.Needs.{needs}

@@ -1,5 +1,5 @@
 -- `JumpTableStateArm::table_end_address` meets its contract.
-use borrow.Author.Tests.{eq-eqb, ne-eqb, lt-ltb, le-ltb}
+use borrow.Author.Tests.{lt-ltb, le-ltb}
 use Rattle.analysis.specs.JumpTable.{endOf}
 use borrow.Author.Needs.{needs}
 use Rattle.analysis.proofs.jump_table.JumpTableStateArm.table_end_address.Statement.{statement}

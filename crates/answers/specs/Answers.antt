@@ -1,10 +1,8 @@
 -- What an answer says, in document 01's terms: the number of a refusal, 0 for none; the instruction's address that it carries; and the
 -- undefined register of number 11.
 use Prim.Native.Nat.{ℕ}
-use mathlib.Core.Option.{Option, none, some}
 use Rattle.walk.specs.declared.Answer.{Answer}
 use Rattle.walk.specs.declared.Answer.the-variants.{Going, Accepted, Refused}
-use Rattle.walk.specs.declared.Record.{Record}
 
 abbrev pub numberOf : Answer → ℕ
 numberOf Going = 0
@@ -20,8 +18,3 @@ abbrev pub registerOf : Answer → ℕ
 registerOf Going = 0
 registerOf (Accepted r) = 0
 registerOf (Refused number address register) = register
-
-abbrev pub recordOf : Answer → Option Record
-recordOf Going = none
-recordOf (Accepted r) = some r
-recordOf (Refused number address register) = none
