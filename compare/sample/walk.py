@@ -1,11 +1,11 @@
 #!/usr/bin/env python3
-"""Makes walk.stdin and walk.stdout (requests for the walk and the original's answers), and walk-steps.stdin and walk-steps.stdout
-(the planned requests alone, with the lists after every step).
+"""Makes stdin and stdout of `crates/walks`: requests for the walk, and what must be written for each, with the lists after every step.
 
 Usage: walk.py WALK [FOLDER COUNT SEED]
 
-WALK is the path of the built `walk`. The stored sample is made without the rest, in this folder; the same seed gives the same files.
-With the rest: COUNT requests from another SEED into another FOLDER, for a longer comparison.
+WALK is the path of the built `walk`. Without the rest: the planned requests and some at random with the original's answers, and then the
+examples of examples.py; the same seed gives the same files. With the rest: the planned requests and others from another SEED, COUNT in
+all, into another FOLDER, for a longer comparison.
 """
 import pathlib
 import random
@@ -20,7 +20,7 @@ from machines import (
 )
 
 SEED = 20261115
-COUNT = 800
+COUNT = 500
 BASE = 0x02000000
 LOW = 0x01FF8000
 HIGH = 0x03000000
@@ -393,23 +393,37 @@ def answers(program, requests, *options):
     return [re.sub(r'^panic (\d+ \w{8}) .*', r'refused \1', text.rstrip('\n'), flags=re.M) + '\n' for text in texts]
 
 
-def write(folder, name, requests, texts):
-    kept = [(request, text) for request, text in zip(requests, texts, strict=True) if comparable(request, text)]
-    (folder / f'{name}.stdin').write_bytes(b''.join(request.pack() for request, _ in kept))
-    (folder / f'{name}.stdout').write_text('\n'.join(text for _, text in kept))
-    refused = sum('refused' in text for _, text in kept)
-    print(f'{name}: {len(kept)} requests, {refused} of them refused')
+def compared(requests, program):
+    """The original's answers step by step, without those that are not compared."""
+    texts = answers(program, requests, 'steps')
+    return [(request.pack(), text) for request, text in zip(requests, texts, strict=True) if comparable(request, text)]
+
+
+def made(program):
+    """The examples, each with its text."""
+    from examples import examples
+    found = list(examples())
+    asked = [example for example in found if example.made != 'hand']
+    rust = dict(zip(map(id, asked), answers(program, [example.plain for example in asked], 'steps'), strict=True))
+    return [(example.pack(), example.expected(rust.get(id(example)))) for example in found]
+
+
+def write(folder, pairs):
+    (folder / 'stdin').write_bytes(b''.join(request for request, _ in pairs))
+    (folder / 'stdout').write_text('\n'.join(text for _, text in pairs))
+    print(f'{folder.name}: {len(pairs)} requests')
 
 
 def main():
     program = sys.argv[1]
-    folder = pathlib.Path(sys.argv[2]) if len(sys.argv) == 5 else pathlib.Path(__file__).parent
-    count, seed = (int(sys.argv[3]), int(sys.argv[4])) if len(sys.argv) == 5 else (COUNT, SEED)
+    is_stored = len(sys.argv) != 5
+    folder = pathlib.Path(__file__).resolve().parents[2] / 'crates/walks' if is_stored else pathlib.Path(sys.argv[2])
+    count, seed = (COUNT, SEED) if is_stored else (int(sys.argv[3]), int(sys.argv[4]))
     random.seed(seed)
     requests = list(planned())
-    write(folder, 'walk-steps', requests, answers(program, requests, 'steps'))
     requests += [at_random() for _ in range(count - len(requests))]
-    write(folder, 'walk', requests, answers(program, requests))
+    pairs = compared(requests, program)
+    write(folder, pairs + made(program) if is_stored else pairs)
 
 
 if __name__ == '__main__':

@@ -3,9 +3,9 @@
 -- Assumes nothing.
 use mathlib.Core.Path.{_≡_, refl}
 use mathlib.Core.Bool.{Bool, true, false}
-use mathlib.Core.List.{List, [], _∷_}
-use Prim.Native.Nat.{ℕ, zero, suc, _+_, _-_, _≤_, _<_}
-use native.Mathlib.Nat.{not-suc-le-zero, le-of-suc-le-suc}
+use mathlib.Core.List.{List}
+use Prim.Native.Nat.{ℕ, _+_, _-_, _≤_, _<_}
+use native.Mathlib.Nat.{not-suc-le-zero}
 use native.Mathlib.Omega.{arith}
 use lib.Dec.{eqb, ltb}
 use lib.ListN.{length, getD}
@@ -37,6 +37,7 @@ use Rattle.walk.specs.Decide.{endsAtReturn, enters, branchFlow, flowOf, flowAt,
 use Rattle.walk.specs.HandleIns.{handleCode}
 use Rattle.runs.proofs.CodeLaws.{Inside, word-inside, inside-found, inside-longer, bytesFrom}
 use Rattle.steps.proofs.CheckLaws.{both-true, neither}
+use Rattle.steps.proofs.PoolLaws.{whole-at}
 use Rattle.steps.proofs.ClassLaws.{same, load-no-return, load-no-entry, load-no-branch}
 use Rattle.runs.proofs.DecisionLaws.{reseen}
 
@@ -117,14 +118,6 @@ module _ (c d : List ℕ) (base : ℕ) (longer : length c ≤ length d) (p : Pro
       go Missing e = absurd (some (rw (load, e)))
 
 -- ---- the word behind a return
-
-whole-at : (base n k : ℕ) (pools : List ℕ) (j : ℕ) → areWhole base n k pools ≡ true → j < k → j < length pools → isWhole base n (getD pools j 0) ≡ true
-unfolding areWhole
-whole-at base n zero pools j e h i = absurd (not-suc-le-zero h)
-whole-at base n (suc k) [] j e h i = absurd (not-suc-le-zero i)
-whole-at base n (suc k) (p ∷ ps) zero e h i = both-true (isWhole base n p) _ e .0
-whole-at base n (suc k) (p ∷ ps) (suc j) e h i =
-    whole-at base n k ps j (both-true (isWhole base n p) _ e .1) (le-of-suc-le-suc h) (le-of-suc-le-suc i)
 
 -- the last pool, where there is one, lies wholly in the code
 pub last-whole : (base n k : ℕ) (pools : List ℕ) → areWhole base n k pools ≡ true → 0 < lastOf pools k → lastOf pools k + 4 ≤ base + n

@@ -46,7 +46,7 @@ module _ (a : ℕ) (i : Ins) (previous : Previous) where
       rw class (same (isConditional (i .cond)))
 
 module _ (i : Ins) (load : isPoolLoad i ≡ true) where
-  load-ldr : is (i .class) Ldr ≡ true
+  pub load-ldr : is (i .class) Ldr ≡ true
   unfolding isPoolLoad
   load-ldr = both-left (is (i .class) Ldr) _ load
 

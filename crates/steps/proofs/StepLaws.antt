@@ -47,7 +47,7 @@ use Rattle.steps.proofs.LabelLaws.{looked-ahead}
 -- ---- a step that skips stands at data
 
 module _ (o : Options) (w : Walk) (f : Found) (v : Seen) (word : ℕ) (i : Ins) where
-  skips-data : (n : ℕ) → handleIns o w f v word i .then ≡ Skips n → f .data ≡ EndsAt n
+  pub skips-data : (n : ℕ) → handleIns o w f v word i .then ≡ Skips n → f .data ≡ EndsAt n
   unfolding handleIns
   skips-data n h = go (f .data) refl h
     where
@@ -62,7 +62,7 @@ module _ (o : Options) (w : Walk) (f : Found) (v : Seen) (word : ℕ) (i : Ins) 
   record-ends true x e = refl
   record-ends false x e = e
 
-  ended : (start at last first : ℕ) → isGoing (intoFunction o start at last first) ≡ false
+  pub ended : (start at last first : ℕ) → isGoing (intoFunction o start at last first) ≡ false
   unfolding intoFunction
   ended start at last first = record-ends (ltb (o .«module_end») (endOf (o .«known_end») at last)) _ refl
 
