@@ -13,3 +13,4 @@ pub mod OrderedLaws
 pub mod PoolLaws
 pub mod LoadLaws
 pub mod KeptLaws
+pub mod EndingLaws

@@ -1,0 +1,4 @@
+-- What the contracts of this crate cite.
+pub mod Plain
+pub mod Put
+pub mod Scan
