@@ -4,9 +4,8 @@ use mathlib.Core.Path.{_≡_, refl}
 use mathlib.Core.Bool.{true, false}
 use mathlib.Core.List.{List, [], _∷_}
 use Prim.Native.Nat.{ℕ}
-use native.Mathlib.Omega.{arith}
 use lib.ListN.{length, length-append, length-take, length-drop, length-set}
-use Rattle.apply.specs.Apply.{Lists, lists, listsAfter, appliedBy, isFull, labelsCounted, poolsCounted, jumpTablesCounted, inlineTablesCounted, callsCounted, poolPlan}
+use Rattle.apply.specs.Apply.{Lists, lists, listsAfter, appliedBy, labelsCounted, poolsCounted, jumpTablesCounted, inlineTablesCounted, callsCounted, poolPlan}
 use Rattle.lists.specs.Columns.{planFor, stored, storedBy, shiftIn, room}
 use Rattle.lists.specs.Order.{inOrder}
 use Rattle.lists.specs.declared.Change.{Change}
@@ -18,6 +17,7 @@ use Rattle.observe.specs.declared.Word.the-variants.{Found as W-Found}
 use Rattle.walk.specs.declared.Counts.{Counts}
 use Rattle.walk.specs.declared.Edit.{Edit}
 use Rattle.walk.specs.declared.Edit.the-variants.{Nothing, Label, Pool, Mark, JumpTable, InlineTable, Call}
+use Rattle.steps.proofs.KeptLaws.{not-full}
 use Rattle.runs.proofs.EditLaws.{AlikeEdit, nothing, label, pool, mark, jump, inline, call}
 use Rattle.runs.proofs.ValueLaws.{valueAt, word-value, value-word, Follows, follows-on}
 
@@ -99,11 +99,6 @@ module _ (c d : List ℕ) (base : ℕ) where
   fits-off (jump a s) = tt
   fits-off (inline a s) = tt
   fits-off (call a w t m) = tt
-
-not-full : (k : Change) → isFull k ≡ false → k ≡ Full → ⊥
-not-full Added e f = let z : _≡_ {A = ℕ} 0 1 = cc in omega arith
-not-full Replaced e f = let z : _≡_ {A = ℕ} 0 1 = cc in omega arith
-not-full Full e f = let z : _≡_ {A = ℕ} 0 1 = cc in omega arith
 
 -- the values follow from the pools after an edit, where they did before it
 module _ (l : Lists) (n : Counts) (order : inOrder (l .pools ∷ l .values ∷ l .marks ∷ []) (n .pools) ≡ true)

@@ -105,7 +105,7 @@ pub data Reaches (o : Options) (starts c : List ℕ) (r : Record) : Walk → Lis
       → Reaches o starts c r (walked o w c starts l .walk) (walked o w c starts l .lists)
       → Reaches o starts c r w l
 
-going-kept : (a : Answer) → isGoing a ≡ true → isRefused a ≡ false
+pub going-kept : (a : Answer) → isGoing a ≡ true → isRefused a ≡ false
 going-kept Going e = refl
 going-kept (Accepted r) e = refl
 going-kept (Refused n a r) e = absurd (let z : _≡_ {A = ℕ} 0 1 = cc in omega arith)

@@ -59,7 +59,7 @@ other-pools (jump a s) l n = (refl, refl)
 other-pools (inline a s) l n = (refl, refl)
 other-pools (call a w d m) l n = (refl, refl)
 
-not-full : (k : Change) → isFull k ≡ false → k ≡ Full → ⊥
+pub not-full : (k : Change) → isFull k ≡ false → k ≡ Full → ⊥
 not-full Added e f = let z : _≡_ {A = ℕ} 0 1 = cc in omega arith
 not-full Replaced e f = let z : _≡_ {A = ℕ} 0 1 = cc in omega arith
 not-full Full e f = let z : _≡_ {A = ℕ} 0 1 = cc in omega arith

@@ -16,14 +16,15 @@ use Rattle.lists.specs.Order.{ascending, cleared, allCleared, inOrder}
 use Rattle.lists.specs.Place.{pick, counted, lastKey}
 use Rattle.lookups.specs.Lookups.{lastOf}
 use Rattle.lists.proofs.OrderLaws.{replicate-zeros}
-use Rattle.stepping.specs.Outcome.{isGoing, isRefused}
+use Rattle.runs.proofs.StableLaws.{going-kept}
+use Rattle.stepping.specs.Outcome.{isGoing}
 use Rattle.stepping.specs.Stepping.{State, walked}
 use Rattle.steps.specs.Walks.{walkedOn}
 use Rattle.steps.proofs.CheckLaws.{Passed, passes, neither, one-not, two-not, three-not, four-not, passed-number}
 use Rattle.steps.proofs.EndingLaws.{ended-stays, has-ended}
 use Rattle.steps.proofs.KeptLaws.{passed-on}
 use Rattle.walk.specs.declared.Answer.{Answer}
-use Rattle.walk.specs.declared.Answer.the-variants.{Going, Accepted, Refused}
+use Rattle.walk.specs.declared.Answer.the-variants.{Going}
 use Rattle.walk.specs.declared.Counts.{Counts}
 use Rattle.walk.specs.declared.Options.{Options}
 use Rattle.walk.specs.declared.Walk.{Walk}
@@ -73,11 +74,6 @@ begun-passed o start code starts l e =
 finish-ended : (w : Walk) → isGoing (w .result) ≡ false → finish w ≡ w .result
 unfolding finish
 finish-ended w e = rw e
-
-going-kept : (a : Answer) → isGoing a ≡ true → isRefused a ≡ false
-going-kept Going e = refl
-going-kept (Accepted r) e = refl
-going-kept (Refused n a r) e = absurd (let z : _≡_ {A = ℕ} 0 1 = cc in omega arith)
 
 module _ (o : Options) (code starts : List ℕ) where
   abbrev after : State → State
