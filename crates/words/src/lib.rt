@@ -43,7 +43,7 @@ fn big_endian(a: u8, b: u8, c: u8, d: u8) -> u32
 }
 
 // The word whose bytes start at `at`.
-fn word_at(input: &[u8], at: usize) -> u32
+pub fn word_at(input: &[u8], at: usize) -> u32
     requires { ⌜ at + 4 ≤ length (now input) ⌝ }
     ensures { λ r. ⌜ r ≡ wordAt (now (input .entry)) at ⌝ }
 {

@@ -1,0 +1,68 @@
+-- What an input that is a request has.
+-- Assumes nothing.
+use mathlib.Core.Path.{_≡_, refl, _∙_}
+use mathlib.Core.Bool.{Bool, true, false}
+use mathlib.Core.List.{List, []}
+use Prim.Native.Nat.{ℕ, _+_, _≤_}
+use native.Mathlib.Omega.{arith}
+use lib.Dec.{leb}
+use lib.ListN.{length, length-drop}
+use borrow.Author.Tests.{leb-true, eqb-true, le-leb, eq-eqb}
+use Rattle.analysis.specs.Pattern.{both}
+use Rattle.words.specs.Lines.{wordAt}
+use Rattle.request.specs.declared.Parsed.the-variants.{Refused}
+use Rattle.request.specs.Request.{statedLength, version, checkByte, codeOf, isRequest, parsed}
+
+pub record Fitting (input : List ℕ) : Type 0 where
+  pub least : 22 ≤ statedLength input
+  pub most : statedLength input ≤ 16406
+  pub whole : statedLength input + 4 ≡ length input
+  pub version : version input ≡ 1
+  pub check : checkByte input ≤ 1
+
+both-true : (s t : Bool) → both s t ≡ true → (s ≡ true) × (t ≡ true)
+both-true true t h = (refl, h)
+both-true false t h = let z : _≡_ {A = ℕ} 0 1 = cc in absurd (omega arith)
+
+pub request-fits : (input : List ℕ) → isRequest input ≡ true → Fitting input
+unfolding isRequest
+request-fits input h =
+    let a = both-true _ _ h in
+    let b = both-true _ _ (a .1) in
+    let c = both-true _ _ (b .1) in
+    let d = both-true _ _ (c .1) in
+    record {
+      least = leb-true _ _ (a .0);
+      most = leb-true _ _ (b .0);
+      whole = eqb-true _ _ (c .0);
+      version = eqb-true _ _ (d .0);
+      check = leb-true _ _ (d .1);
+    }
+
+-- where all but the check byte is right, that byte decides
+pub check-decides : (input : List ℕ) → 22 ≤ statedLength input → statedLength input ≤ 16406 → statedLength input + 4 ≡ length input → version input ≡ 1
+    → isRequest input ≡ leb (checkByte input) 1
+unfolding isRequest
+check-decides input least most whole first = rw (le-leb _ _ least, le-leb _ _ most, eq-eqb _ _ whole, eq-eqb _ _ first)
+
+pub fits-request : (input : List ℕ) → Fitting input → isRequest input ≡ true
+fits-request input f = check-decides input (f .least) (f .most) (f .whole) (f .version) ∙ le-leb _ _ (f .check)
+
+-- 26 bytes before the code
+pub request-length : (input : List ℕ) → isRequest input ≡ true → 26 ≤ length input
+request-length input h = let f = request-fits input h in omega (arith, f .least, f .whole)
+
+pub no-request : (input : List ℕ) → (Fitting input → ⊥) → isRequest input ≡ false
+no-request input none = go (isRequest input) refl
+  where
+    go : (t : Bool) → isRequest input ≡ t → t ≡ false
+    go true e = absurd (none (request-fits input e))
+    go false e = refl
+
+-- the code is what the stated length leaves: at most 16,384 bytes
+pub code-length : (input : List ℕ) → isRequest input ≡ true → length (codeOf input) + 22 ≡ statedLength input
+code-length input h = let f = request-fits input h in simp length-drop (omega (arith, f .least, f .whole))
+
+example-empty : parsed [] ≡ Refused
+unfolding parsed isRequest wordAt
+example-empty = refl
