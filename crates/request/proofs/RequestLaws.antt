@@ -8,10 +8,11 @@ use native.Mathlib.Omega.{arith}
 use lib.Dec.{leb}
 use lib.ListN.{length, length-drop}
 use borrow.Author.Tests.{leb-true, eqb-true, le-leb, eq-eqb}
-use Rattle.analysis.specs.Pattern.{both}
+use Rattle.analysis.specs.Pattern.{pick, both}
 use Rattle.words.specs.Lines.{wordAt}
-use Rattle.request.specs.declared.Parsed.the-variants.{Refused}
-use Rattle.request.specs.Request.{statedLength, version, checkByte, codeOf, isRequest, parsed}
+use Rattle.request.specs.declared.Parsed.the-variants.{Asked, Refused}
+use Rattle.request.specs.declared.Request.{Request}
+use Rattle.request.specs.Request.{statedLength, version, checkByte, codeOf, isRequest, requestOf, parsed}
 
 pub record Fitting (input : List ℕ) : Type 0 where
   pub least : 22 ≤ statedLength input
@@ -62,6 +63,14 @@ no-request input none = go (isRequest input) refl
 -- the code is what the stated length leaves: at most 16,384 bytes
 pub code-length : (input : List ℕ) → isRequest input ≡ true → length (codeOf input) + 22 ≡ statedLength input
 code-length input h = let f = request-fits input h in simp length-drop (omega (arith, f .least, f .whole))
+
+pub asked-length : (input : List ℕ) (r : Request) → parsed input ≡ Asked r → 26 ≤ length input
+unfolding parsed
+asked-length input r h = go (isRequest input) refl h
+  where
+    go : (t : Bool) → isRequest input ≡ t → pick t (Asked (requestOf input)) Refused ≡ Asked r → 26 ≤ length input
+    go true e p = request-length input e
+    go false e p = let z : _≡_ {A = ℕ} 0 1 = cc in absurd (omega arith)
 
 example-empty : parsed [] ≡ Refused
 unfolding parsed isRequest wordAt

@@ -1,0 +1,55 @@
+-- Document 01: what the listing program finds and prints for an input.
+use Prim.Native.Nat.{ℕ}
+use mathlib.Core.Path.{_≡_}
+use mathlib.Core.List.{List, []}
+use Rattle.apply.specs.Apply.{Lists, noCounts}
+use Rattle.functions.specs.Calls.{Run, refused}
+use Rattle.listing.specs.Listing.{textOf, roomFor}
+use Rattle.request.specs.declared.Parsed.{Parsed}
+use Rattle.request.specs.declared.Parsed.the-variants.{Asked, Refused}
+use Rattle.request.specs.declared.Request.{Request}
+use Rattle.request.specs.Request.{codeOf, parsed}
+use Rattle.walk.specs.declared.Answer.{Answer}
+use Rattle.walk.specs.declared.Counts.{Counts}
+use Rattle.whole.specs.Whole.{run}
+use Rattle.words.specs.Answer.{Answered}
+use Rattle.words.specs.declared.Answer as words
+use Rattle.finder.specs.declared.Found.{Found}
+
+-- an answer, the lists after it and their counts
+pub record Outcome : Type 0 where
+  pub answer : Answer
+  pub lists : Lists
+  pub counts : Counts
+
+abbrev pub outcomeOf : Run → Outcome
+outcomeOf r = record { answer = r .answer; lists = r .lists; counts = r .walk .counts }
+
+-- the whole walk, with no existing starts and no entries yet
+unfoldable pub foundBy : Request → List ℕ → Lists → Outcome
+foundBy r code l = outcomeOf (run (r .options) code [] (r .start) noCounts l)
+
+-- what is no request is refused as 16, and no list changes
+unfoldable pub foundIn : Parsed → List ℕ → Lists → Outcome
+foundIn (Asked r) input l = foundBy r (codeOf input) l
+foundIn Refused input l = record { answer = refused 16; lists = l; counts = noCounts }
+
+unfoldable pub found : List ℕ → Lists → Outcome
+found input l = foundIn (parsed input) input l
+
+-- these were found
+pub record Finds (f : Found) (lists : Lists) (o : Outcome) : Type 0 where
+  pub answers : f .answer ≡ o .answer
+  pub counted : f .counts ≡ o .counts
+  pub holds : lists ≡ o .lists
+
+abbrev pub textBy : Outcome → List ℕ
+textBy o = textOf (o .answer) (o .lists) (o .counts)
+
+abbrev pub roomBy : Outcome → ℕ
+roomBy o = roomFor (o .lists) (o .counts)
+
+-- the text in the buffer, and what every place of every list holds
+pub record Listed (input : List ℕ) (before after : Lists) (out : List ℕ) (r : words.Answer) (left : List ℕ) : Type 0 where
+  pub text : Answered (textBy (found input before)) (roomBy (found input before)) out r left
+  pub holds : after ≡ found input before .lists

@@ -1,0 +1,174 @@
+// The listing program's work on slices: a request in, the listing of the function out.
+use request::Parsed;
+use request::Request;
+use walk::Answer;
+use walk::Counts;
+ghost use mathlib.Core.Path.{_≡_};
+ghost use Rattle.apply.specs.Apply.{lists, noCounts};
+ghost use Rattle.words.specs.Answer.{Answered};
+ghost use Rattle.finder.specs.Finder.{Finds, foundBy, found, Listed};
+
+// The answer to a request; how many entries of each list go with it.
+pub struct Found {
+    pub answer: Answer,
+    pub counts: Counts,
+}
+
+fn no_counts() -> Counts
+    ensures { λ r. ⌜ r ≡ noCounts ⌝ }
+{
+    Counts {
+        labels: 0,
+        pools: 0,
+        jump_tables: 0,
+        inline_tables: 0,
+        calls: 0,
+    }
+}
+
+// The whole walk of a request. It has no existing starts.
+fn walk_whole(
+    r: Request,
+    code: &[u8],
+    labels: &mut [u32],
+    pools: &mut [u32],
+    pool_values: &mut [u32],
+    pool_marks: &mut [u32],
+    jump_tables: &mut [u32],
+    jump_sizes: &mut [u32],
+    inline_tables: &mut [u32],
+    inline_sizes: &mut [u32],
+    calls: &mut [u32],
+    call_words: &mut [u32],
+    call_destinations: &mut [u32],
+    call_modes: &mut [u32],
+) -> Found
+    ensures { λ f. ⌜ Finds f (lists (now (labels .exit)) (now (pools .exit)) (now («pool_values» .exit)) (now («pool_marks» .exit)) (now («jump_tables» .exit)) (now («jump_sizes» .exit)) (now («inline_tables» .exit)) (now («inline_sizes» .exit)) (now (calls .exit)) (now («call_words» .exit)) (now («call_destinations» .exit)) (now («call_modes» .exit))) (foundBy r (now (code .entry)) (lists (now (labels .entry)) (now (pools .entry)) (now («pool_values» .entry)) (now («pool_marks» .entry)) (now («jump_tables» .entry)) (now («jump_sizes» .entry)) (now («inline_tables» .entry)) (now («inline_sizes» .entry)) (now (calls .entry)) (now («call_words» .entry)) (now («call_destinations» .entry)) (now («call_modes» .entry)))) ⌝ }
+{
+    let starts: [u32; 0] = [];
+    let o = r.options;
+    let run = whole::run(
+        o,
+        r.start,
+        code,
+        &starts,
+        labels,
+        pools,
+        pool_values,
+        pool_marks,
+        jump_tables,
+        jump_sizes,
+        inline_tables,
+        inline_sizes,
+        calls,
+        call_words,
+        call_destinations,
+        call_modes,
+        no_counts(),
+    );
+    let answer = run.answer;
+    let walk = run.walk;
+    let counts = walk.counts;
+    Found { answer, counts }
+}
+
+// What an input asks for. One that is no request changes no list.
+fn find(
+    input: &[u8],
+    labels: &mut [u32],
+    pools: &mut [u32],
+    pool_values: &mut [u32],
+    pool_marks: &mut [u32],
+    jump_tables: &mut [u32],
+    jump_sizes: &mut [u32],
+    inline_tables: &mut [u32],
+    inline_sizes: &mut [u32],
+    calls: &mut [u32],
+    call_words: &mut [u32],
+    call_destinations: &mut [u32],
+    call_modes: &mut [u32],
+) -> Found
+    ensures { λ f. ⌜ Finds f (lists (now (labels .exit)) (now (pools .exit)) (now («pool_values» .exit)) (now («pool_marks» .exit)) (now («jump_tables» .exit)) (now («jump_sizes» .exit)) (now («inline_tables» .exit)) (now («inline_sizes» .exit)) (now (calls .exit)) (now («call_words» .exit)) (now («call_destinations» .exit)) (now («call_modes» .exit))) (found (now (input .entry)) (lists (now (labels .entry)) (now (pools .entry)) (now («pool_values» .entry)) (now («pool_marks» .entry)) (now («jump_tables» .entry)) (now («jump_sizes» .entry)) (now («inline_tables» .entry)) (now («inline_sizes» .entry)) (now (calls .entry)) (now («call_words» .entry)) (now («call_destinations» .entry)) (now («call_modes» .entry)))) ⌝ }
+{
+    match request::parse(input) {
+        Parsed::Asked(r) => walk_whole(
+            r,
+            &input[26..],
+            labels,
+            pools,
+            pool_values,
+            pool_marks,
+            jump_tables,
+            jump_sizes,
+            inline_tables,
+            inline_sizes,
+            calls,
+            call_words,
+            call_destinations,
+            call_modes,
+        ),
+        Parsed::Refused => Found {
+            answer: Answer::Refused {
+                number: 16,
+                address: 0,
+                register: 0,
+            },
+            counts: no_counts(),
+        },
+    }
+}
+
+// The listing of what an input asks for, at the start of `out`. A buffer that is too short is left alone; the lists hold what was found all the same.
+pub fn list_function(
+    input: &[u8],
+    labels: &mut [u32],
+    pools: &mut [u32],
+    pool_values: &mut [u32],
+    pool_marks: &mut [u32],
+    jump_tables: &mut [u32],
+    jump_sizes: &mut [u32],
+    inline_tables: &mut [u32],
+    inline_sizes: &mut [u32],
+    calls: &mut [u32],
+    call_words: &mut [u32],
+    call_destinations: &mut [u32],
+    call_modes: &mut [u32],
+    out: &mut [u8],
+) -> words::Answer
+    ensures { λ r. ⌜ Listed (now (input .entry)) (lists (now (labels .entry)) (now (pools .entry)) (now («pool_values» .entry)) (now («pool_marks» .entry)) (now («jump_tables» .entry)) (now («jump_sizes» .entry)) (now («inline_tables» .entry)) (now («inline_sizes» .entry)) (now (calls .entry)) (now («call_words» .entry)) (now («call_destinations» .entry)) (now («call_modes» .entry))) (lists (now (labels .exit)) (now (pools .exit)) (now («pool_values» .exit)) (now («pool_marks» .exit)) (now («jump_tables» .exit)) (now («jump_sizes» .exit)) (now («inline_tables» .exit)) (now («inline_sizes» .exit)) (now (calls .exit)) (now («call_words» .exit)) (now («call_destinations» .exit)) (now («call_modes» .exit))) (now (out .entry)) r (now (out .exit)) ⌝ }
+{
+    let found = find(
+        input,
+        labels,
+        pools,
+        pool_values,
+        pool_marks,
+        jump_tables,
+        jump_sizes,
+        inline_tables,
+        inline_sizes,
+        calls,
+        call_words,
+        call_destinations,
+        call_modes,
+    );
+    let answer = found.answer;
+    let counts = found.counts;
+    listing::listing(
+        out,
+        answer,
+        labels,
+        pools,
+        pool_values,
+        pool_marks,
+        jump_tables,
+        jump_sizes,
+        inline_tables,
+        inline_sizes,
+        calls,
+        call_words,
+        call_destinations,
+        call_modes,
+        counts,
+    )
+}
