@@ -1,0 +1,113 @@
+-- `main` is safe: the text that it writes lies within its buffer.
+-- Assumes nothing.
+use mathlib.Core.Path.{sym}
+use lib.Seq.{length-take-le}
+use borrow.Author.Needs.{needs}
+use Rattle.finder.proofs.FinderLaws.{listed-within}
+use Rattle.listfn.proofs.main.Statement.{statement}
+use Rattle.listfn.proofs.main.Tie as tie
+
+slice-aggregate-read-full : tie.Need-slice-aggregate-read-full
+slice-aggregate-read-full c = search needs
+
+read-full-requires : tie.Need-read-full-requires
+read-full-requires c κs = search needs
+
+array-share-prefix-input : tie.Need-array-share-prefix-input
+array-share-prefix-input c = search needs
+
+slice-aggregate-list-function : tie.Need-slice-aggregate-list-function
+slice-aggregate-list-function c = search needs
+
+slice-aggregate-list-function-2 : tie.Need-slice-aggregate-list-function-2
+slice-aggregate-list-function-2 c = search needs
+
+slice-aggregate-list-function-3 : tie.Need-slice-aggregate-list-function-3
+slice-aggregate-list-function-3 c = search needs
+
+slice-aggregate-list-function-4 : tie.Need-slice-aggregate-list-function-4
+slice-aggregate-list-function-4 c = search needs
+
+slice-aggregate-list-function-5 : tie.Need-slice-aggregate-list-function-5
+slice-aggregate-list-function-5 c = search needs
+
+slice-aggregate-list-function-6 : tie.Need-slice-aggregate-list-function-6
+slice-aggregate-list-function-6 c = search needs
+
+slice-aggregate-list-function-7 : tie.Need-slice-aggregate-list-function-7
+slice-aggregate-list-function-7 c = search needs
+
+slice-aggregate-list-function-8 : tie.Need-slice-aggregate-list-function-8
+slice-aggregate-list-function-8 c = search needs
+
+slice-aggregate-list-function-9 : tie.Need-slice-aggregate-list-function-9
+slice-aggregate-list-function-9 c = search needs
+
+slice-aggregate-list-function-10 : tie.Need-slice-aggregate-list-function-10
+slice-aggregate-list-function-10 c = search needs
+
+slice-aggregate-list-function-11 : tie.Need-slice-aggregate-list-function-11
+slice-aggregate-list-function-11 c = search needs
+
+slice-aggregate-list-function-12 : tie.Need-slice-aggregate-list-function-12
+slice-aggregate-list-function-12 c = search needs
+
+slice-aggregate-list-function-13 : tie.Need-slice-aggregate-list-function-13
+slice-aggregate-list-function-13 c = search needs
+
+slice-aggregate-list-function-14 : tie.Need-slice-aggregate-list-function-14
+slice-aggregate-list-function-14 c = search needs
+
+list-function-requires : tie.Need-list-function-requires
+list-function-requires c κs = search needs
+
+enum-known-answer : tie.Need-enum-known-answer
+enum-known-answer c = search needs
+
+array-share-prefix-out : tie.Need-array-share-prefix-out
+array-share-prefix-out c = listed-within (c .before .before .before .before .before .before .before .before .before .before .before .before .before .before .before .before .list-function .ensures) (c .before .answer .given .1)
+
+slice-aggregate-write-all : tie.Need-slice-aggregate-write-all
+slice-aggregate-write-all c = sym (length-take-le _ _ (listed-within (c .before .before .before .before .before .before .before .before .before .before .before .before .before .before .before .before .before .list-function .ensures) (c .before .before .answer .given .1)))
+
+write-all-requires : tie.Need-write-all-requires
+write-all-requires c κs = search needs
+
+enum-told : tie.Need-enum-told
+enum-told c = search needs
+
+returns : tie.Need-returns
+returns c = search needs
+
+returns-2 : tie.Need-returns-2
+returns-2 c = search needs
+
+pub main-spec : {M : Type 1} → statement M
+main-spec =
+    tie.close
+    (tie.spec
+    slice-aggregate-read-full
+    read-full-requires
+    array-share-prefix-input
+    slice-aggregate-list-function
+    slice-aggregate-list-function-2
+    slice-aggregate-list-function-3
+    slice-aggregate-list-function-4
+    slice-aggregate-list-function-5
+    slice-aggregate-list-function-6
+    slice-aggregate-list-function-7
+    slice-aggregate-list-function-8
+    slice-aggregate-list-function-9
+    slice-aggregate-list-function-10
+    slice-aggregate-list-function-11
+    slice-aggregate-list-function-12
+    slice-aggregate-list-function-13
+    slice-aggregate-list-function-14
+    list-function-requires
+    enum-known-answer
+    array-share-prefix-out
+    slice-aggregate-write-all
+    write-all-requires
+    enum-told
+    returns
+    returns-2)
