@@ -1,0 +1,98 @@
+-- `cugbejin_run` meets its contract.
+-- Assumes nothing.
+use borrow.Author.Needs.{needs}
+use Rattle.cugbejin_c.proofs.ToldLaws.{told}
+use Rattle.cugbejin_c.proofs.cugbejin_run.Statement.{statement}
+use Rattle.cugbejin_c.proofs.cugbejin_run.Tie as tie
+
+options-from-requires : tie.Need-options-from-requires
+options-from-requires c κs = search needs
+
+no-counts-requires : tie.Need-no-counts-requires
+no-counts-requires c κs = search needs
+
+run-requires : tie.Need-run-requires
+run-requires c κs = search needs
+
+record-of-requires : tie.Need-record-of-requires
+record-of-requires c κs = search needs
+
+numbers-of-requires : tie.Need-numbers-of-requires
+numbers-of-requires c κs = search needs
+
+number-requires : tie.Need-number-requires
+number-requires c κs = search needs
+
+cast-result : tie.Need-cast-result
+cast-result c = search needs
+
+same-length : tie.Need-same-length
+same-length c = search needs
+
+same-length-2 : tie.Need-same-length-2
+same-length-2 c = search needs
+
+same-length-3 : tie.Need-same-length-3
+same-length-3 c = search needs
+
+same-length-4 : tie.Need-same-length-4
+same-length-4 c = search needs
+
+same-length-5 : tie.Need-same-length-5
+same-length-5 c = search needs
+
+same-length-6 : tie.Need-same-length-6
+same-length-6 c = search needs
+
+same-length-7 : tie.Need-same-length-7
+same-length-7 c = search needs
+
+same-length-8 : tie.Need-same-length-8
+same-length-8 c = search needs
+
+same-length-9 : tie.Need-same-length-9
+same-length-9 c = search needs
+
+same-length-10 : tie.Need-same-length-10
+same-length-10 c = search needs
+
+same-length-11 : tie.Need-same-length-11
+same-length-11 c = search needs
+
+same-length-12 : tie.Need-same-length-12
+same-length-12 c = search needs
+
+returns : tie.Need-returns
+returns c =
+    told _ _ _ _ _ _ _ _ _ _ _ _
+    (c .before .before .before .before .before .before .before .before .before .before .before .before .before .before .before .before .before .before .before .before .before .before .before .before .before .before .before .before .before .before .before .before .before .before .before .before .before .before .before .before .before .before .options-from .ensures)
+    (c .before .before .before .before .before .before .before .before .before .before .before .before .before .before .before .before .before .before .before .before .before .before .before .before .before .before .before .before .before .no-counts .ensures)
+    (c .before .before .before .before .before .before .before .before .before .before .before .before .before .before .before .before .before .before .before .before .before .before .before .before .before .before .before .before .run .ensures)
+    (c .before .before .record-of .ensures)
+    (c .before .numbers-of .ensures)
+    (c .number .ensures)
+
+pub cugbejin-run-spec : {M : Type 1} → statement M
+cugbejin-run-spec =
+    tie.close
+    (tie.spec
+    options-from-requires
+    no-counts-requires
+    run-requires
+    record-of-requires
+    numbers-of-requires
+    number-requires
+    cast-result
+    same-length
+    same-length-2
+    same-length-3
+    same-length-4
+    same-length-5
+    same-length-6
+    same-length-7
+    same-length-8
+    same-length-9
+    same-length-10
+    same-length-11
+    same-length-12
+    returns)

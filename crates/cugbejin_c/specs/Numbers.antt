@@ -1,0 +1,64 @@
+-- The whole walk in numbers alone: the options that a host's numbers stand for, and the twelve numbers of an answer.
+use Prim.Native.Nat.{ℕ}
+use mathlib.Core.Path.{_≡_}
+use mathlib.Core.Bool.{Bool, not}
+use mathlib.Core.List.{List, [], _∷_}
+use lib.Dec.{eqb}
+use Rattle.answers.specs.Answers.{numberOf, addressOf, registerOf}
+use Rattle.apply.specs.Apply.{Lists, noCounts}
+use Rattle.functions.specs.Calls.{Run}
+use Rattle.lists.specs.Place.{pick}
+use Rattle.walk.specs.declared.Answer.{Answer}
+use Rattle.walk.specs.declared.Answer.the-variants.{Going, Accepted, Refused}
+use Rattle.walk.specs.declared.Counts.{Counts}
+use Rattle.walk.specs.declared.KnownEnd.{KnownEnd}
+use Rattle.walk.specs.declared.KnownEnd.the-variants.{Nothing, At}
+use Rattle.walk.specs.declared.Options.{Options}
+use Rattle.walk.specs.declared.Record.{Record}
+
+-- no known end where `known` is 0
+abbrev pub knownFrom : ℕ → ℕ → KnownEnd
+knownFrom known end = pick (eqb known 0) Nothing (At end)
+
+abbrev pub optionsFrom : ℕ → ℕ → ℕ → ℕ → ℕ → ℕ → Options
+optionsFrom base start end known knownEnd check = record {
+  base = base;
+  «module_start» = start;
+  «module_end» = end;
+  «known_end» = knownFrom known knownEnd;
+  check = not (eqb check 0);
+}
+
+-- zeros where there is no record
+abbrev pub noRecord : Record
+noRecord = record { start = 0; end = 0; «first_instruction» = 0; «last_instruction_end» = 0 }
+
+abbrev pub recordOf : Answer → Record
+recordOf Going = noRecord
+recordOf (Accepted r) = r
+recordOf (Refused number address register) = noRecord
+
+abbrev pub numbersOf : Answer → Record → Counts → List ℕ
+numbersOf a r n =
+    numberOf a ∷ addressOf a ∷ registerOf a
+    ∷ r .start ∷ r .end ∷ r .«first_instruction» ∷ r .«last_instruction_end»
+    ∷ n .labels ∷ n .pools ∷ n .«jump_tables» ∷ n .«inline_tables» ∷ n .calls ∷ []
+
+abbrev pub answerNumbers : Run → List ℕ
+answerNumbers r = numbersOf (r .answer) (recordOf (r .answer)) (r .walk .counts)
+
+-- a call returned the number, and left the answer and the lists
+pub record Told (number : ℕ) (answer : List ℕ) (lists : Lists) (run : Run) : Type 0 where
+  pub returns : number ≡ numberOf (run .answer)
+  pub tells : answer ≡ answerNumbers run
+  pub holds : lists ≡ run .lists
+
+-- what a whole walk comes to: a record; or a refusal, which has a number and leaves no entries
+pub record Refusing (number : ℕ) (n : Counts) : Type 0 where
+  pub numbered : number ≡ 0 → ⊥
+  pub none : n ≡ noCounts
+
+abbrev pub Ended : Answer → Counts → Type 0
+Ended Going n = ⊥
+Ended (Accepted r) n = Unit {0}
+Ended (Refused number address register) n = Refusing number n
