@@ -1,6 +1,6 @@
 -- What a whole walk comes to: it never goes on, and a refusal has a number and leaves no entries. So 0 is returned for accepted functions alone.
 -- Assumes nothing.
-use mathlib.Core.Path.{_≡_, refl, sym, ap, _∙_, subst}
+use mathlib.Core.Path.{_≡_, refl, _∙_, subst}
 use mathlib.Core.Bool.{Bool, true, false}
 use mathlib.Core.List.{List}
 use Prim.Native.Nat.{ℕ, zero, suc, _+_}
@@ -11,13 +11,13 @@ use lib.ListN.{length}
 use Rattle.analysis.specs.Pattern.{pick}
 use Rattle.answers.specs.Answers.{numberOf}
 use Rattle.apply.specs.declared.Applied.{Applied}
-use Rattle.apply.specs.Apply.{Lists, noCounts, allZero, appliedBy}
+use Rattle.apply.specs.Apply.{Lists, noCounts, allZero}
 use Rattle.arm.specs.declared.Ins.{Ins}
 use Rattle.arm.specs.Ins.{decodeOf}
 use Rattle.checks.specs.Checks.{beginNo}
 use Rattle.functions.specs.Calls.{Run, Called, begin, settled, refused}
 use Rattle.functions.specs.declared.Stepped.{Stepped}
-use Rattle.lookups.specs.Lookups.{lookedUp, firstOf}
+use Rattle.lookups.specs.Lookups.{lookedUp}
 use Rattle.observe.specs.declared.Word.{Word}
 use Rattle.observe.specs.declared.Word.the-variants.{Found as W-Found, Missing}
 use Rattle.observe.specs.Observe.{wordFrom, seen}
@@ -40,6 +40,7 @@ use Rattle.walk.specs.declared.Found.{Found}
 use Rattle.walk.specs.declared.decide.Onward.{Onward}
 use Rattle.walk.specs.declared.decide.Onward.the-variants.{To, End, Beyond}
 use Rattle.walk.specs.declared.Options.{Options}
+use Rattle.walk.specs.declared.Record.{Record}
 use Rattle.walk.specs.declared.Seen.{Seen}
 use Rattle.walk.specs.declared.Then.{Then}
 use Rattle.walk.specs.declared.Then.the-variants.{Skips, Goes, Ends, Refuses}
@@ -47,21 +48,10 @@ use Rattle.walk.specs.declared.Walk.{Walk}
 use Rattle.walk.specs.Checking.{undefinedRegister}
 use Rattle.walk.specs.Decide.{stopOf, lateStop, goOn, refuse, byFlow, decidedBy, decided, onwardOf, editBefore, editAfter}
 use Rattle.walk.specs.HandleIns.{handleCode, handleAt, handleIns, goneTo, skippedPast}
-use Rattle.walk.specs.IntoFunction.{begun, intoFunction, endOf, startOf, recordTo}
+use Rattle.walk.specs.IntoFunction.{begun, intoFunction, endOf}
 use Rattle.whole.specs.Whole.{run}
 use Rattle.whole.proofs.WholeLaws.{run-number, run-on, run-refused}
-use Rattle.cugbejin_c.specs.Numbers.{recordOf, Refusing, Ended}
-
--- of a result and the counts beside it
-abbrev Says : Answer → Counts → Type 0
-Says Going n = Unit {0}
-Says (Accepted r) n = Unit {0}
-Says (Refused number address register) n = Refusing number n
-
-going-says : (a : Answer) (n : Counts) → isGoing a ≡ true → Says a n
-going-says Going n on = tt
-going-says (Accepted r) n on = let z : _≡_ {A = ℕ} 0 1 = cc in absurd (omega arith)
-going-says (Refused number address register) n on = let z : _≡_ {A = ℕ} 0 1 = cc in absurd (omega arith)
+use Rattle.cugbejin_c.specs.Numbers.{recordOf, Ended}
 
 -- ---- a step's refusal has a number
 
@@ -87,25 +77,6 @@ flow-numbered Label Beyond a late undefined before after n r h none = let same :
 flow-numbered Leaves onward a late undefined before after n r h none = let z : _≡_ {A = ℕ} 0 1 = cc in omega arith
 flow-numbered Calls onward a late undefined before after n r h none = go-numbered late undefined after (a + 4) n r h none
 flow-numbered On onward a late undefined before after n r h none = go-numbered late undefined after (a + 4) n r h none
-
--- ---- the walk at its end
-
-module _ (o : Options) (w : Walk) where
-  ended-says : (at : ℕ) (n : Counts) (number address register : ℕ) → (number ≡ 0 → ⊥)
-      → Says (endedAt w at n (Refused number address register) .result) (endedAt w at n (Refused number address register) .counts)
-  unfolding endedAt countsFor
-  ended-says at n number address register some = record { numbered = some; none = refl }
-
-  record-says : (at : ℕ) (n : Counts) (firstPool : ℕ) → Says (endedAt w at n (intoFunction o (w .progress .start) at (w .progress .«last_pool_address») firstPool) .result) (endedAt w at n (intoFunction o (w .progress .start) at (w .progress .«last_pool_address») firstPool) .counts)
-  unfolding endedAt countsFor intoFunction
-  record-says at n firstPool = go (ltb (o .«module_end») (endOf (o .«known_end») at (w .progress .«last_pool_address»)))
-    where
-      found : Bool → Answer
-      found b = pick b (Refused 14 0 0) (Accepted (record { start = startOf (w .progress .start) firstPool; end = endOf (o .«known_end») at (w .progress .«last_pool_address»); «first_instruction» = w .progress .start; «last_instruction_end» = at }))
-
-      go : (b : Bool) → Says (found b) (countsFor (found b) n)
-      go true = record { numbered = λ z. omega arith; none = refl }
-      go false = tt
 
 module _ (o : Options) (w : Walk) (f : Found) (v : Seen) (word : ℕ) (i : Ins) where
   abbrev before : Edit
@@ -138,72 +109,74 @@ module _ (o : Options) (w : Walk) (f : Found) (v : Seen) (word : ℕ) (i : Ins) 
       go (EndsAt e) k = let z : _≡_ {A = ℕ} 0 1 = cc in omega arith
       go D-Beyond k = let same : 12 ≡ n = cc in omega arith
 
-  then-says : (then : Then) (n : Counts) (firstPool : ℕ) → isGoing (w .result) ≡ true → ((k r : ℕ) → then ≡ Refuses k r → k ≡ 0 → ⊥)
-      → Says (afterThen o w f v word i then n firstPool .result) (afterThen o w f v word i then n firstPool .counts)
-  unfolding countedTo skippedPast goneTo refusedAt
-  then-says (Skips at) n firstPool going some = going-says (w .result) n going
-  then-says (Goes at) n firstPool going some = going-says (w .result) n going
-  then-says (Ends at) n firstPool going some = record-says o w at n firstPool
-  then-says (Refuses k r) n firstPool going some = ended-says o w (w .progress .address) (w .counts) k (w .progress .address) r (some k r refl)
+-- ---- the walk after a step
 
-  applied-says : (then : Then) (k : Applied) (firstPool : ℕ) → isGoing (w .result) ≡ true → ((k r : ℕ) → then ≡ Refuses k r → k ≡ 0 → ⊥)
-      → Says (afterApplied o w f v word i then k firstPool .result) (afterApplied o w f v word i then k firstPool .counts)
+abbrev Says : Walk → Type 0
+Says w = isGoing (w .result) ≡ false → Ended (w .result) (w .counts)
+
+module _ (w : Walk) where
+  going-says : (n : Counts) → isGoing (w .result) ≡ true → isGoing (w .result) ≡ false → Ended (w .result) n
+  going-says n on off = let z : _≡_ {A = ℕ} 0 1 = cc in absurd (omega arith)
+
+  refused-says : (at : ℕ) (n : Counts) (number address register : ℕ) → (number ≡ 0 → ⊥) → Says (endedAt w at n (Refused number address register))
+  unfolding endedAt countsFor
+  refused-says at n number address register some off = record { numbered = some; none = refl }
+
+  record-says : (at : ℕ) (n : Counts) (b : Bool) (r : Record) → Says (endedAt w at n (pick b (Refused 14 0 0) (Accepted r)))
+  unfolding endedAt
+  record-says at n true r off = refused-says at n 14 0 0 (λ z. omega arith) off
+  record-says at n false r off = tt
+
+module _ (o : Options) (w : Walk) (f : Found) (v : Seen) (word : ℕ) (i : Ins) (going : isGoing (w .result) ≡ true) where
+  then-says : (then : Then) (n : Counts) (firstPool : ℕ) → ((k r : ℕ) → then ≡ Refuses k r → k ≡ 0 → ⊥) → Says (afterThen o w f v word i then n firstPool)
+  unfolding countedTo skippedPast goneTo refusedAt intoFunction
+  then-says (Skips at) n firstPool some = going-says w n going
+  then-says (Goes at) n firstPool some = going-says w n going
+  then-says (Ends at) n firstPool some = record-says w at n (ltb (o .«module_end») (endOf (o .«known_end») at (w .progress .«last_pool_address»))) _
+  then-says (Refuses k r) n firstPool some = refused-says w (w .progress .address) (w .counts) k (w .progress .address) r (some k r refl)
+
+  applied-says : (then : Then) (k : Applied) (firstPool : ℕ) → ((k r : ℕ) → then ≡ Refuses k r → k ≡ 0 → ⊥) → Says (afterApplied o w f v word i then k firstPool)
   unfolding afterApplied refusedAt
-  applied-says then k firstPool going some = go (k .«is_full»)
+  applied-says then k firstPool some = go (k .«is_full»)
     where
-      after : Bool → Walk
-      after b = pick b (refusedAt w 13 0) (afterThen o w f v word i then (k .counts) firstPool)
-
-      go : (b : Bool) → Says (after b .result) (after b .counts)
-      go true = ended-says o w (w .progress .address) (w .counts) 13 (w .progress .address) 0 (λ z. omega arith)
-      go false = then-says then (k .counts) firstPool going some
+      go : (b : Bool) → Says (pick b (refusedAt w 13 0) (afterThen o w f v word i then (k .counts) firstPool))
+      go true = refused-says w (w .progress .address) (w .counts) 13 (w .progress .address) 0 (λ z. omega arith)
+      go false = then-says then (k .counts) firstPool some
 
 module _ (o : Options) (code starts : List ℕ) where
-  abbrev SaysIn : State → Type 0
-  SaysIn s = Says (s .walk .result) (s .walk .counts)
-
-  walked-says : (s : State) → isGoing (s .walk .result) ≡ true → SaysIn (walked o (s .walk) code starts (s .lists))
+  walked-says : (w : Walk) (l : Lists) → isGoing (w .result) ≡ true → Says (walked o w code starts l .walk)
   unfolding walked walkedWord changed lookedAt noEpilogue
-  walked-says s going = go (wordFrom code (o .base) (s .walk .progress .address))
+  walked-says w l going = go (wordFrom code (o .base) (w .progress .address))
     where
-      w : Walk
-      w = s .walk
-
-      l : Lists
-      l = s .lists
-
       foundAt : Ins → Found
       foundAt i = lookedUp (w .progress .address) (i .target) starts (l .labels) (l .pools) (l .inlines) (l .inlineSizes) (l .destinations) (w .counts)
 
       seenAt : Ins → Seen
       seenAt i = seen code (o .base) (w .progress) (foundAt i .«is_called_next») i
 
-      at-word : (word : ℕ) (i : Ins) → Says (afterApplied o w (foundAt i) (seenAt i) word i (handleIns o w (foundAt i) (seenAt i) word i .then) (appliedBy (handleIns o w (foundAt i) (seenAt i) word i .edit) l (w .counts)) (firstOf (l .pools) (w .counts .pools)) .result) (afterApplied o w (foundAt i) (seenAt i) word i (handleIns o w (foundAt i) (seenAt i) word i .then) (appliedBy (handleIns o w (foundAt i) (seenAt i) word i .edit) l (w .counts)) (firstOf (l .pools) (w .counts .pools)) .counts)
-      at-word word i = applied-says o w (foundAt i) (seenAt i) word i _ _ _ going (handle-numbered o w (foundAt i) (seenAt i) word i)
+      go : (x : Word) → Says (walkedAt o w code starts l x .walk)
+      go (W-Found word) =
+          let i : Ins = decodeOf word (w .progress .address) in
+          applied-says o w (foundAt i) (seenAt i) word i going _ _ _ (handle-numbered o w (foundAt i) (seenAt i) word i)
+      go Missing = refused-says w (w .progress .address) (w .counts) 14 0 0 (λ z. omega arith)
 
-      go : (x : Word) → SaysIn (walkedAt o w code starts l x)
-      go (W-Found word) = at-word word (decodeOf word (w .progress .address))
-      go Missing = ended-says o w (w .progress .address) (w .counts) 14 0 0 (λ z. omega arith)
-
-  on-says : (n : ℕ) (s : State) → SaysIn s → SaysIn (walkedOn o code starts n s)
+  on-says : (n : ℕ) (s : State) → Says (s .walk) → Says (walkedOn o code starts n s .walk)
   unfolding walkedOn
   on-says zero s h = h
-  on-says (suc n) s h = go (isGoing (s .walk .result)) refl (on-says n (walked o (s .walk) code starts (s .lists)))
+  on-says (suc n) s h = go (isGoing (s .walk .result)) refl (on-says n after)
     where
       after : State
       after = walked o (s .walk) code starts (s .lists)
 
-      go : (b : Bool) → isGoing (s .walk .result) ≡ b → (SaysIn after → SaysIn (walkedOn o code starts n after)) → SaysIn (pick b (walkedOn o code starts n after) s)
-      go true e next = next (walked-says s e)
+      go : (b : Bool) → isGoing (s .walk .result) ≡ b → (Says (after .walk) → Says (walkedOn o code starts n after .walk))
+          → Says (pick b (walkedOn o code starts n after) s .walk)
+      go true e next = next (walked-says (s .walk) (s .lists) e)
       go false e next = h
 
 -- ---- the whole walk
 
--- a result that is none yet is out of the question
-over : (a : Answer) (n : Counts) → isGoing a ≡ false → Says a n → Ended a n
-over Going n off h = let z : _≡_ {A = ℕ} 0 1 = cc in omega arith
-over (Accepted r) n off h = tt
-over (Refused number address register) n off h = h
+abbrev EndedIn : Run → Type 0
+EndedIn r = Ended (r .answer) (r .walk .counts)
 
 module _ (o : Options) (start : ℕ) (code starts : List ℕ) (l : Lists) where
   abbrev opened : Run
@@ -215,25 +188,21 @@ module _ (o : Options) (start : ℕ) (code starts : List ℕ) (l : Lists) where
       (record { walk = begun start noCounts; lists = allZero l; answer = Going })
       (record { walk = begun start noCounts; lists = l; answer = refused (beginNo o start (length code) starts) })
 
-  opened-walk : opened .walk ≡ begun start noCounts
-  unfolding begin
-  opened-walk = go (eqb (beginNo o start (length code) starts) 0)
+  opened-going : isGoing (opened .walk .result) ≡ true
+  unfolding begin begun
+  opened-going = go (eqb (beginNo o start (length code) starts) 0)
     where
-      go : (b : Bool) → begins b .walk ≡ begun start noCounts
+      go : (b : Bool) → isGoing (begins b .walk .result) ≡ true
       go true = refl
       go false = refl
 
-  opened-going : isGoing (opened .walk .result) ≡ true
-  unfolding begun
-  opened-going = ap (λ (w : Walk). isGoing (w .result)) opened-walk
-
-  opened-says : Says (opened .answer) (opened .walk .counts)
+  opened-ended : isGoing (opened .answer) ≡ false → EndedIn opened
   unfolding begin begun
-  opened-says = go (eqb (beginNo o start (length code) starts) 0) refl
+  opened-ended = go (eqb (beginNo o start (length code) starts) 0) refl
     where
-      go : (b : Bool) → eqb (beginNo o start (length code) starts) 0 ≡ b → Says (begins b .answer) (begins b .walk .counts)
-      go true e = tt
-      go false e = record { numbered = eqb-false _ _ e; none = refl }
+      go : (b : Bool) → eqb (beginNo o start (length code) starts) 0 ≡ b → isGoing (begins b .answer) ≡ false → EndedIn (begins b)
+      go true e off = let z : _≡_ {A = ℕ} 0 1 = cc in omega arith
+      go false e off = record { numbered = eqb-false _ _ e; none = refl }
 
   abbrev first : State
   first = record { walk = opened .walk; lists = opened .lists }
@@ -244,37 +213,35 @@ module _ (o : Options) (start : ℕ) (code starts : List ℕ) (l : Lists) where
   abbrev call : Run → Stepped
   call r = record { walk = r .walk; answer = r .answer }
 
-  opens : Called (call opened) (opened .lists) opened
-  opens = record { walks = refl; answers = refl; holds = refl }
+  called : (r : Run) → Called (call r) (r .lists) r
+  called r = record { walks = refl; answers = refl; holds = refl }
 
   abbrev all : Run
   all = run o code starts start noCounts l
 
-  carried : (r : Run) (x : Lists) → Called (call r) x all → isGoing (r .answer) ≡ false → Says (r .answer) (r .walk .counts) → Ended (all .answer) (all .walk .counts)
-  carried r x k off h =
+  carried : (r : Run) → Called (call r) (r .lists) all → EndedIn r → EndedIn all
+  carried r k h =
       subst (λ (w : Walk). Ended (all .answer) (w .counts)) (k .walks)
-      (subst (λ (a : Answer). Ended a (r .walk .counts)) (k .answers) (over (r .answer) (r .walk .counts) off h))
+      (subst (λ (a : Answer). Ended a (r .walk .counts)) (k .answers) h)
 
-  last-says : Says (last .answer) (last .walk .counts)
+  last-ended : isGoing (opened .answer) ≡ true → EndedIn last
   unfolding settled
-  last-says = on-says o code starts (suc (length code)) first (going-says (opened .walk .result) (opened .walk .counts) opened-going)
-
-  last-off : isGoing (opened .answer) ≡ true → isGoing (last .answer) ≡ false
-  unfolding settled
-  last-off e =
-      has-ended o code starts first opened-going
-      (number-passed o (first .walk) code starts (first .lists) (run-number o start code starts noCounts l (call opened) (opened .lists) opens e))
+  last-ended e =
+      on-says o code starts (suc (length code)) first (going-says (opened .walk) (opened .walk .counts) opened-going)
+      (has-ended o code starts first opened-going
+      (number-passed o (first .walk) code starts (first .lists)
+      (run-number o start code starts noCounts l (call opened) (opened .lists) (called opened) e)))
 
   pub ended : Ended (all .answer) (all .walk .counts)
   ended = go (isGoing (opened .answer)) refl
     where
-      go : (b : Bool) → isGoing (opened .answer) ≡ b → Ended (all .answer) (all .walk .counts)
+      go : (b : Bool) → isGoing (opened .answer) ≡ b → EndedIn all
       go true e =
-          carried last (last .lists)
-          (run-on o start code starts noCounts l (call opened) (opened .lists) opens e (call last) (last .lists) (record { walks = refl; answers = refl; holds = refl }))
-          (last-off e)
-          last-says
-      go false e = carried opened (opened .lists) (run-refused o start code starts noCounts l (call opened) (opened .lists) opens e) e opened-says
+          carried last
+          (run-on o start code starts noCounts l (call opened) (opened .lists) (called opened) e (call last) (last .lists) (called last))
+          (last-ended e)
+      go false e =
+          carried opened (run-refused o start code starts noCounts l (call opened) (opened .lists) (called opened) e) (opened-ended e)
 
   -- 0 is returned for accepted functions alone
   pub zero-accepted : numberOf (all .answer) ≡ 0 → all .answer ≡ Accepted (recordOf (all .answer))

@@ -21,7 +21,8 @@ in-numbers : (x : Run) (ran : Stepped) (after : Lists) (found : Record) (numbers
 in-numbers x ran after found numbers number k f ns n =
     record { returns = n ∙ ap numberOf (k .answers); tells = ns ∙ rw (f, k .answers, k .walks); holds = k .holds }
 
-pub told : (o given : Options) (n : Counts) (code starts : List ℕ) (start : ℕ) (l : Lists) (ran : Stepped) (after : Lists) (found : Record) (numbers : List ℕ) (number : ℕ)
+pub told : (o given : Options) (n : Counts) (code starts : List ℕ) (start : ℕ) (l : Lists)
+    (ran : Stepped) (after : Lists) (found : Record) (numbers : List ℕ) (number : ℕ)
     → given ≡ o
     → n ≡ noCounts
     → Called ran after (run given code starts start n l)
@@ -29,4 +30,5 @@ pub told : (o given : Options) (n : Counts) (code starts : List ℕ) (start : �
     → numbers ≡ numbersOf (ran .answer) found (ran .walk .counts)
     → number ≡ numberOf (ran .answer)
     → Told number numbers after (run o code starts start noCounts l)
-told o given n code starts start l ran after found numbers number same none k f ns m = in-numbers _ ran after found numbers number (rw (same, none) at k) f ns m
+told o given n code starts start l ran after found numbers number same none k f ns m =
+    in-numbers _ ran after found numbers number (rw (same, none) at k) f ns m

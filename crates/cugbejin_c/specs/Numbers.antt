@@ -1,7 +1,7 @@
 -- The whole walk in numbers alone: the options that a host's numbers stand for, and the twelve numbers of an answer.
 use Prim.Native.Nat.{ℕ}
 use mathlib.Core.Path.{_≡_}
-use mathlib.Core.Bool.{Bool, not}
+use mathlib.Core.Bool.{not}
 use mathlib.Core.List.{List, [], _∷_}
 use lib.Dec.{eqb}
 use Rattle.answers.specs.Answers.{numberOf, addressOf, registerOf}
