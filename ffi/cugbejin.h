@@ -1,0 +1,91 @@
+/* Cugbejin for C: one function's walk, from an accepted start to its record or a refusal, in one call.
+ * Link target/staticlib/libcugbejin_c.a, which `rt staticlib cugbejin_c` writes. docs/PROMISES.md says which definition each result equals. */
+#ifndef CUGBEJIN_H
+#define CUGBEJIN_H
+
+#include <stddef.h>
+#include <stdint.h>
+
+#ifdef __cplusplus
+extern "C" {
+#endif
+
+/* What a call answers, in twelve numbers. */
+struct cugbejin_answer {
+    uint64_t number;               /* 0: accepted; else the refusal, see below */
+    uint64_t address;              /* of the instruction that is refused; 0 with 0, 1 to 4 and 14 */
+    uint64_t undefined_register;   /* with 11 the lowest register that is undefined and used, else 0 */
+    uint64_t start;                /* the record: the function's start and end, its first instruction, and the end of its last; */
+    uint64_t end;                  /* all 0 where the function is refused */
+    uint64_t first_instruction;
+    uint64_t last_instruction_end;
+    uint64_t labels;               /* entries in each list; all 0 where the function is refused */
+    uint64_t pools;
+    uint64_t jump_tables;
+    uint64_t inline_tables;
+    uint64_t calls;
+};
+
+/* Refusals. After 1 to 4 every list is as it was; after 5 to 14 every place of every list is 0. */
+enum cugbejin_refusal {
+    CUGBEJIN_WINDOW = 1,             /* base, code end or module outside 0x01FF8000 to 0x03000000, or module start above its end */
+    CUGBEJIN_START_OUTSIDE = 2,      /* start below base or past the code's end */
+    CUGBEJIN_START_UNALIGNED = 3,    /* start no multiple of 4 */
+    CUGBEJIN_STARTS_UNORDERED = 4,   /* starts not strictly ascending */
+    CUGBEJIN_ILLEGAL = 5,            /* illegal opcode */
+    CUGBEJIN_SHIFTED_BASE = 6,       /* dereferencing shifted registers */
+    CUGBEJIN_OFFSET_BY_ITSELF = 7,   /* register offset by itself */
+    CUGBEJIN_PC_INTO_PC = 8,         /* PC read into PC */
+    CUGBEJIN_BRANCH_OUTSIDE = 9,     /* branch outside of the program */
+    CUGBEJIN_POOL_OUTSIDE = 10,      /* pool word not wholly in the code */
+    CUGBEJIN_UNDEFINED_REGISTER = 11, /* undefined register used, where that is checked */
+    CUGBEJIN_TABLE_OUTSIDE = 12,     /* a table's size, end or address outside 32 bits */
+    CUGBEJIN_LIST_FULL = 13,         /* no place left in a list */
+    CUGBEJIN_NO_EPILOGUE = 14        /* code ran out, or the function ends past the module */
+};
+
+/* Walks one ARM function. Returns 0 where it is accepted, else the refusal's number, and fills *answer.
+ *
+ *   base                      address of the code's first byte
+ *   module_start, module_end  the module's addresses; its end is past its last byte
+ *   start                     where the walk starts
+ *   known, known_end          known 0: the end is found; else it is known_end
+ *   check                     0: off; else a use of an undefined register is refused
+ *   code                      the bytes; a word has its lowest byte first
+ *   starts                    starts of other functions, strictly ascending; only read
+ *
+ * The other lists are filled, ascending by address, with zeros after the last entry. What they hold before does not matter. Lists in a group are
+ * columns of one list: the shortest is its room.
+ *
+ *   labels                    addresses
+ *   pools                     addresses, the words there, and marks: 1 for one that is called, else 0
+ *   jump_tables               addresses and sizes in bytes
+ *   inline_tables             addresses and sizes in bytes
+ *   calls                     addresses, instruction words, destinations, and modes: 0 ARM, 1 Thumb
+ *
+ * A length counts elements. No pointer may be NULL, also where the length is 0: an empty list is any aligned address, as that of a variable, and 0.
+ * The twelve filled lists and the answer must not overlap one another, nor code or starts. Nothing is kept after the call. */
+uint32_t cugbejin_run(
+    uint32_t base, uint32_t module_start, uint32_t module_end, uint32_t start,
+    uint32_t known, uint32_t known_end, uint32_t check,
+    const uint8_t *code, size_t code_length,
+    const uint32_t *starts, size_t starts_length,
+    uint32_t *labels, size_t labels_length,
+    uint32_t *pools, size_t pools_length,
+    uint32_t *pool_values, size_t pool_values_length,
+    uint32_t *pool_marks, size_t pool_marks_length,
+    uint32_t *jump_tables, size_t jump_tables_length,
+    uint32_t *jump_sizes, size_t jump_sizes_length,
+    uint32_t *inline_tables, size_t inline_tables_length,
+    uint32_t *inline_sizes, size_t inline_sizes_length,
+    uint32_t *calls, size_t calls_length,
+    uint32_t *call_words, size_t call_words_length,
+    uint32_t *call_destinations, size_t call_destinations_length,
+    uint32_t *call_modes, size_t call_modes_length,
+    struct cugbejin_answer *answer);
+
+#ifdef __cplusplus
+}
+#endif
+
+#endif
