@@ -3,10 +3,10 @@
 
 Usage: fresh.py WALK WALKS COUNT SEED
 
-WALK is the path of the built oracle, WALKS that of this repository's `walks` (target/bin/walks after `rt check walks`). Of the requests about
-three in ten are the planned ones of walk.py with words and options changed; the others are code and options at random. Each runs with as
-many places as the lists can have, and once more with few; what a list without room must answer, 13, is worked out from the original's own
-lists. Prints how many agreed and the first that did not, and fails if any did not.
+WALK is the path of the built oracle, WALKS that of this repository's `walks` (target/bin/walks after `rt check walks`). Of the requests three in
+ten are rich functions (rich.py), about as many are planned or rich ones with words and options changed, and the others are code and options
+at random. Each runs with as many places as the lists can have, and once more with few; what a list without room must answer, 13, is worked
+out from the original's own lists. Prints how many agreed and the first that did not, and fails if any did not.
 """
 import collections
 import random
@@ -16,11 +16,11 @@ import subprocess
 import sys
 
 import walk
+from rich import rich
 
 BATCH = 2000
 MOST = (1024, 1024, 64, 64, 1024)
 KINDS = ('label', 'pool', 'jump', 'inline', 'call')
-CONDITIONS = (0xE, 0xE, 0, 1, 10, 15)
 
 
 def with_places(request, places):
@@ -31,33 +31,13 @@ def with_places(request, places):
     return struct.pack('>I', len(body)) + body
 
 
-def changed_word(word, planned):
+def fresh():
     kind = random.random()
-    if kind < .4:
-        return word ^ 1 << random.randrange(32)
-    if kind < .6:
-        return word & 0x0FFFFFFF | random.choice(CONDITIONS) << 28
-    if kind < .8:
-        return struct.unpack_from('<I', random.choice(planned).code.ljust(4, b'\0'))[0]
-    return random.getrandbits(32)
-
-
-def changed(planned):
-    """A planned request with up to three words changed, and now and then its module end, known end or check."""
-    plan = random.choice(planned)
-    code = bytearray(plan.code)
-    for _ in range(random.choice((1, 1, 2, 3))):
-        if len(code) >= 4:
-            at = random.randrange(len(code) // 4) * 4
-            struct.pack_into('<I', code, at, changed_word(struct.unpack_from('<I', code, at)[0], planned))
-    request = walk.Request([], base=plan.base)
-    request.code, request.numbers, request.existing = bytes(code), list(plan.numbers), list(plan.existing)
-    request.check = random.choice((plan.check, 0, 1))
-    if random.random() < .2:
-        request.numbers[2] = min(walk.HIGH, max(request.numbers[1], request.numbers[2] + 4 * random.randrange(-3, 4)))
-    if random.random() < .1:
-        request.numbers[4] = random.choice((0, request.base + 4 * random.randrange(8)))
-    return request
+    if kind < .2:
+        return walk.changed(random.choice(walk.PLANNED))
+    if kind < .35:
+        return walk.changed(rich())
+    return rich() if kind < .65 else walk.at_random()
 
 
 def listings(program, data, *options):
@@ -98,37 +78,39 @@ def with_few(listing, start, places):
 
 
 class Tally:
-    def __init__(self):
-        self.ends, self.few, self.left_out, self.different = collections.Counter(), collections.Counter(), 0, 0
+    """Of the requests: the ends of those compared, how many had rich lists, and how many did not agree, with all places or with few."""
 
-    def compare(self, name, expected, given, request, places):
-        if expected == given:
-            return
-        if not self.different:
+    def __init__(self):
+        self.ends, self.few, self.rich, self.left_out, self.different = collections.Counter(), collections.Counter(), 0, 0, 0
+
+    def agree(self, name, expected, given, request, places):
+        if expected != given and not self.different:
             print(f'{name}, places {places}, request {request.pack().hex()}\nthe original:\n{expected}\nhere:\n{given}')
-        self.different += 1
+        return expected == given
 
     def add(self, request, expected, given, few, places):
-        end = [line for line in expected.splitlines() if line.startswith(('refused', 'function', 'outside'))][-1]
-        if end.startswith('outside') or not walk.comparable(request, end):
+        if expected.startswith('outside') or not walk.comparable(request, expected):
             self.left_out += 1
             return
-        self.ends['accepted' if end.startswith('function') else int(end.split()[1])] += 1
-        self.compare('all places', expected, given, request, MOST)
+        end, is_rich = walk.outcome(expected)
+        self.ends[end] += 1
+        self.rich += is_rich
+        same = self.agree('all places', expected, given, request, MOST)
         wanted = with_few(expected, request.numbers[3], places)
         if wanted is None:
             self.few['not told'] += 1
-            return
-        self.few['13' if wanted.splitlines()[-1].startswith('refused 13') else 'not 13'] += 1
-        self.compare('few places', wanted, few, request, places)
+        else:
+            self.few['13' if wanted.splitlines()[-1].startswith('refused 13') else 'not 13'] += 1
+            same &= self.agree('few places', wanted, few, request, places)
+        self.different += not same
 
 
 def main():
     oracle, program, count, seed = sys.argv[1], sys.argv[2], int(sys.argv[3]), int(sys.argv[4])
-    planned, tally = list(walk.planned()), Tally()
+    tally = Tally()
     random.seed(seed)
     for first in range(0, count, BATCH):
-        requests = [changed(planned) if random.random() < .3 else walk.at_random() for _ in range(min(BATCH, count - first))]
+        requests = [fresh() for _ in range(min(BATCH, count - first))]
         places = [tuple(random.choice((0, 1, 2, 3, 5, 64)) for _ in KINDS) for _ in requests]
         expected = original(oracle, requests)
         given = listings(program, b''.join(with_places(request, MOST) for request in requests))
@@ -136,8 +118,9 @@ def main():
         assert len(expected) == len(given) == len(few) == len(requests)
         for parts in zip(requests, expected, given, few, places):
             tally.add(*parts)
-    print(f'{sum(tally.ends.values())} compared, {tally.left_out} left out, {tally.different} different')
-    print('ends:', dict(sorted(tally.ends.items(), key=str)))
+    compared = sum(tally.ends.values())
+    print(f'{compared - tally.different} agreed, {tally.different} did not, {tally.left_out} left out')
+    print('ends:', dict(sorted(tally.ends.items(), key=str)), f'{tally.rich} accepted with rich lists')
     print('with few places:', dict(sorted(tally.few.items())))
     sys.exit(tally.different > 0)
 

@@ -1,12 +1,14 @@
 #!/usr/bin/env python3
 """Makes stdin and stdout of `crates/walks`: requests for the walk, and what must be written for each, with the lists after every step.
 
-Usage: walk.py WALK [FOLDER COUNT SEED]
+Usage: walk.py WALK
 
-WALK is the path of the built `walk`. Without the rest: the planned requests and some at random with the original's answers, and then the
-examples of examples.py; the same seed gives the same files. With the rest: the planned requests and others from another SEED, COUNT in
-all, into another FOLDER, for a longer comparison.
+WALK is the path of the built `walk`. With the original's answers: the planned requests, code and options at random, the functions of rich.py,
+and planned requests and rich functions with a few words changed; then the examples of examples.py. The seed is fixed, so the files come out
+the same. What is said of the original's answers is counted, printed and asserted: every outcome is there, and a quarter are accepted with
+rich lists. fresh.py makes others for a longer comparison.
 """
+import collections
 import pathlib
 import random
 import re
@@ -20,7 +22,7 @@ from machines import (
 )
 
 SEED = 20261115
-COUNT = 500
+AT_RANDOM, RICH, CHANGED = 306, 900, 500
 BASE = 0x02000000
 LOW = 0x01FF8000
 HIGH = 0x03000000
@@ -48,6 +50,9 @@ class Request:
 
     def word(self, address):
         return struct.unpack_from('<I', self.code, address - self.base)[0]
+
+    def words(self):
+        return list(struct.unpack_from(f'<{len(self.code) // 4}I', self.code))
 
 
 # ---- words
@@ -86,6 +91,10 @@ def table_load(base, rd=2, rm=3, amount=4):
     return transfer(1, rd, base, by_shift(rm, LSR, amount), byte=1)
 
 
+# The refusals' examples, 5 to 8 and 10 to 12.
+REFUSED = ([0xE7F000F0], [0xE1A01101, 0xE8810001], [0xE7810001], [0xE89F8000], [0xE59F0FFF], [0xE1A00004], [0xE3500101, 0x908FF100])
+
+
 def planned():
     """The marked runs, the refusals' examples, and readings that are easy to get wrong."""
     c1 = [0xE59F0000, 0xE12FFF1E, 0x12345678]
@@ -103,7 +112,7 @@ def planned():
     yield Request([RETURN], module=(0, 8), known=8)
     for check in (0, 1):
         yield Request([0xE1A00004, RETURN], check=check)
-    for words in ([0xE7F000F0], [0xE1A01101, 0xE8810001], [0xE7810001], [0xE89F8000], [0xE59F0FFF], [0xE1A00004], [0xE3500101, 0x908FF100]):
+    for words in REFUSED:
         yield Request(words, check=1)
     yield Request([0xEAFFFFFD], base=LOW)
 
@@ -369,6 +378,43 @@ def at_random():
     return Request(words, base, module, start, known, random.choice([0, 0, 1]), existing, tail)
 
 
+# ---- requests changed
+
+PLANNED = list(planned())
+CONDITIONS = (AL, AL, EQ, NE, GE, NV)
+
+
+def changed_word(word):
+    kind = random.random()
+    if kind < .4:
+        return word ^ 1 << random.randrange(32)
+    if kind < .6:
+        return word & 0x0FFFFFFF | random.choice(CONDITIONS) << 28
+    if kind < .8:
+        return random.choice(random.choice(PLANNED).words() or [NOP])
+    return random.getrandbits(32)
+
+
+def changed(plan):
+    """Up to three words changed, or a refusal's example put in; and now and then another module end, known end or check."""
+    request = Request([], base=plan.base)
+    request.numbers, request.existing, request.check = list(plan.numbers), list(plan.existing), random.choice((plan.check, 0, 1))
+    words, tail = plan.words(), plan.code[len(plan.code) // 4 * 4:]
+    places = [random.randrange(len(words)) for _ in range(random.choice((1, 1, 2, 3)))] if words else []
+    if places and random.random() < .3:
+        example = random.choice(REFUSED)
+        words[places[0]:places[0] + len(example)] = example
+    else:
+        for at in places:
+            words[at] = changed_word(words[at])
+    request.code = struct.pack(f'<{len(words)}I', *words) + tail
+    if random.random() < .2:
+        request.numbers[2] = min(HIGH, max(request.numbers[1], request.numbers[2] + 4 * random.randrange(-3, 4)))
+    if random.random() < .1:
+        request.numbers[4] = random.choice((0, request.base + 4 * random.randrange(8)))
+    return request
+
+
 # ---- the original's answers
 
 def comparable(request, answer):
@@ -408,22 +454,37 @@ def made(program):
     return [(example.pack(), example.expected(rust.get(id(example)))) for example in found]
 
 
-def write(folder, pairs):
-    (folder / 'stdin').write_bytes(b''.join(request for request, _ in pairs))
-    (folder / 'stdout').write_text('\n'.join(text for _, text in pairs))
-    print(f'{folder.name}: {len(pairs)} requests')
+def outcome(text):
+    """The number of a refusal or `accepted`, and whether the lists are rich: two kinds of entries, and four entries in all."""
+    lines = text.splitlines()
+    at = max(i for i, line in enumerate(lines) if line.startswith(('function', 'refused')))
+    kinds = [line.split()[0] for line in lines[at + 1:]]
+    words = lines[at].split()
+    is_accepted = words[0] == 'function'
+    return 'accepted' if is_accepted else int(words[1]), is_accepted and len(set(kinds)) >= 2 and len(kinds) >= 4
+
+
+def counted(pairs):
+    ends = collections.Counter(outcome(text)[0] for _, text in pairs)
+    rich = sum(outcome(text)[1] for _, text in pairs)
+    print(f"walks: {len(pairs)} requests with the original's answers, {rich} accepted with rich lists")
+    print('ends:', ', '.join(f'{end} {ends[end]}' for end in sorted(ends, key=str)))
+    assert len(pairs) >= 2000 and 4 * rich >= len(pairs)
+    assert set(ends) == {'accepted', 5, 6, 7, 8, 9, 10, 11, 12, 14} and min(ends.values()) >= 10
 
 
 def main():
+    from rich import rich
     program = sys.argv[1]
-    is_stored = len(sys.argv) != 5
-    folder = pathlib.Path(__file__).resolve().parents[2] / 'crates/walks' if is_stored else pathlib.Path(sys.argv[2])
-    count, seed = (COUNT, SEED) if is_stored else (int(sys.argv[3]), int(sys.argv[4]))
-    random.seed(seed)
-    requests = list(planned())
-    requests += [at_random() for _ in range(count - len(requests))]
+    random.seed(SEED)
+    requests = PLANNED + [at_random() for _ in range(AT_RANDOM)] + [rich() for _ in range(RICH)]
+    requests += [changed(rich() if random.random() < .6 else random.choice(PLANNED)) for _ in range(CHANGED)]
     pairs = compared(requests, program)
-    write(folder, pairs + made(program) if is_stored else pairs)
+    counted(pairs)
+    pairs += made(program)
+    folder = pathlib.Path(__file__).resolve().parents[2] / 'crates/walks'
+    (folder / 'stdin').write_bytes(b''.join(request for request, _ in pairs))
+    (folder / 'stdout').write_text('\n'.join(text for _, text in pairs))
 
 
 if __name__ == '__main__':
