@@ -22,7 +22,7 @@ fn main() -> io::Result<ExitCode> {
     let mut out = io::BufWriter::new(io::stdout().lock());
     let mut rest = &input[..];
     while !rest.is_empty() {
-        let Some(request) = read(&mut rest) else {
+        let Some(request) = Request::read(&mut rest) else {
             out.flush()?;
             eprintln!("not a request");
             return Ok(ExitCode::FAILURE);
@@ -54,38 +54,4 @@ fn answer(out: &mut impl Write, request: &Request, show_steps: bool, show_errors
         writeln!(out, "error {error}")?;
     }
     Ok(())
-}
-
-/// Takes one request from the front.
-fn read(rest: &mut &[u8]) -> Option<Request> {
-    let length = number(rest)? as usize;
-    let (mut body, after) = rest.split_at_checked(length)?;
-    *rest = after;
-    let body = &mut body;
-    let version = byte(body)?;
-    let (base, module_start, module_end, start) = (number(body)?, number(body)?, number(body)?, number(body)?);
-    let known_end = Some(number(body)?).filter(|&end| end != 0);
-    let check = match byte(body)? {
-        0 => false,
-        1 => true,
-        _ => return None,
-    };
-    let existing_starts = match version {
-        1 => Vec::new(),
-        2 => (0..number(body)?).map(|_| number(body)).collect::<Option<_>>()?,
-        _ => return None,
-    };
-    Some(Request { base, module_start, module_end, start, known_end, check, existing_starts, code: body.to_vec() })
-}
-
-fn byte(rest: &mut &[u8]) -> Option<u8> {
-    let (&first, after) = rest.split_first()?;
-    *rest = after;
-    Some(first)
-}
-
-fn number(rest: &mut &[u8]) -> Option<u32> {
-    let (&first, after) = rest.split_first_chunk()?;
-    *rest = after;
-    Some(u32::from_be_bytes(first))
 }

@@ -56,6 +56,28 @@ pub struct Step {
 }
 
 impl Request {
+    /// Takes one request from the front.
+    pub fn read(rest: &mut &[u8]) -> Option<Self> {
+        let length = number(rest)? as usize;
+        let (mut body, after) = rest.split_at_checked(length)?;
+        *rest = after;
+        let body = &mut body;
+        let version = byte(body)?;
+        let (base, module_start, module_end, start) = (number(body)?, number(body)?, number(body)?, number(body)?);
+        let known_end = Some(number(body)?).filter(|&end| end != 0);
+        let check = match byte(body)? {
+            0 => false,
+            1 => true,
+            _ => return None,
+        };
+        let existing_starts = match version {
+            1 => Vec::new(),
+            2 => (0..number(body)?).map(|_| number(body)).collect::<Option<_>>()?,
+            _ => return None,
+        };
+        Some(Self { base, module_start, module_end, start, known_end, check, existing_starts, code: body.to_vec() })
+    }
+
     /// The refusal that the original has no check for, so that there is nothing to compare: numbers 1 to 4.
     pub fn outside(&self) -> Option<u32> {
         let program = 0x01FF_8000..=0x0300_0000;
@@ -76,20 +98,8 @@ impl Request {
 
     /// Walks twice: by the original's own loop, and step by step by the loop below. The two must agree.
     pub fn walk(&self) -> Walked {
-        let existing: BTreeMap<u32, Function> = self.existing_starts.iter().map(|&start| (start, known_function(start))).collect();
-        let options = FunctionParseOptions {
-            name: String::new(),
-            start_address: self.start,
-            base_address: self.base,
-            module_code: &self.code,
-            known_end_address: self.known_end,
-            module_start_address: self.module_start,
-            module_end_address: self.module_end,
-            existing_functions: Some(&existing),
-            dsprot_encrypted_ranges: &[],
-            check_defs_uses: self.check,
-            parse_options: ParseFunctionOptions { thumb: Some(false) },
-        };
+        let existing = self.existing();
+        let options = self.options(&existing);
         let found = BTreeMap::new();
 
         let mut steps = Vec::new();
@@ -102,6 +112,36 @@ impl Request {
         Walked { steps, answer }
     }
 
+    /// The original's own loop and nothing else, for timing.
+    pub fn walk_once(&self, existing: &BTreeMap<u32, Function>) -> Result<Function, FunctionAnalysisError> {
+        Function::function_parser_loop_inner(self.parser(), &self.options(existing), &BTreeMap::new())
+    }
+
+    /// Decodes every word of the code and does nothing else, for timing.
+    pub fn decode(&self) {
+        self.parser().for_each(|ins| drop(std::hint::black_box(ins)));
+    }
+
+    pub fn existing(&self) -> BTreeMap<u32, Function> {
+        self.existing_starts.iter().map(|&start| (start, known_function(start))).collect()
+    }
+
+    fn options<'a>(&'a self, existing: &'a BTreeMap<u32, Function>) -> FunctionParseOptions<'a> {
+        FunctionParseOptions {
+            name: String::new(),
+            start_address: self.start,
+            base_address: self.base,
+            module_code: &self.code,
+            known_end_address: self.known_end,
+            module_start_address: self.module_start,
+            module_end_address: self.module_end,
+            existing_functions: Some(existing),
+            dsprot_encrypted_ranges: &[],
+            check_defs_uses: self.check,
+            parse_options: ParseFunctionOptions { thumb: Some(false) },
+        }
+    }
+
     /// As in `parse_function`.
     fn parser(&self) -> Parser<'_> {
         let start = (self.start - self.base) as usize;
@@ -109,6 +149,18 @@ impl Request {
         parser.set_pc(self.start);
         parser
     }
+}
+
+fn byte(rest: &mut &[u8]) -> Option<u8> {
+    let (&first, after) = rest.split_first()?;
+    *rest = after;
+    Some(first)
+}
+
+fn number(rest: &mut &[u8]) -> Option<u32> {
+    let (&first, after) = rest.split_first_chunk()?;
+    *rest = after;
+    Some(u32::from_be_bytes(first))
 }
 
 /// What `function_parser_loop_inner` does after its start check, with a note of each step and of the address that it is at.
