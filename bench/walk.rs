@@ -15,8 +15,8 @@ mod cugbejin;
 use cugbejin::{Counts, Function, Lists, Options, Refusal};
 
 const BASE: u32 = 0x0200_0000;
-const ROUNDS: usize = 9;
-const ROUND_NANOSECONDS: f64 = 1e7;
+const ROUNDS: usize = 40;
+const ROUND_NANOSECONDS: f64 = 2e6;
 
 // ---- the library
 
@@ -230,6 +230,16 @@ fn full(instructions: usize) -> Request {
     code.end(instructions, POP)
 }
 
+/// A call in every four instructions.
+fn calling(instructions: usize) -> Request {
+    let mut code = Code::new();
+    for _ in 1..instructions / 4 {
+        code.go(0x1_0000, AL, 1);
+        code.plain(3);
+    }
+    code.end(instructions, POP)
+}
+
 /// Each label and each pool is found below all that were found before it: 1,000 labels, and 500 pools behind a branch.
 fn backwards() -> Request {
     let mut code = Code::new();
@@ -260,6 +270,7 @@ fn inputs(path: &str) -> Vec<Input> {
         Input::new("large: mixed, check on", vec![checked(mixed(4096))]),
         Input::new("large: full of pools and labels", vec![full(4096)]),
         Input::new("large: labels and pools found backwards", vec![backwards()]),
+        Input::new("large: full of calls", vec![calling(4096)]),
     ];
     inputs.extend(by_number.into_iter().map(|(number, requests)| Input::new(format!("refused {number}: stored"), requests)));
     inputs.push(Input::new("refused 5: at the end of 4,096", vec![Code::new().end(4096, ILLEGAL)]));
@@ -344,4 +355,5 @@ fn main() {
     growth("plain", plain);
     growth("mixed", mixed);
     growth("full of pools and labels", full);
+    growth("full of calls", calling);
 }
