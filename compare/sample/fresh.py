@@ -1,12 +1,13 @@
 #!/usr/bin/env python3
 """Compares fresh requests with the original, call by call: the answer, every list after each step, and the register of 11.
 
-Usage: fresh.py WALK WALKS COUNT SEED
+Usage: fresh.py WALK WALKS COUNT SEED [LISTFN]
 
 WALK is the path of the built oracle, WALKS that of this repository's `walks` (target/bin/walks after `rt check walks`). Of the requests three in
 ten are rich functions (rich.py), about as many are planned or rich ones with words and options changed, and the others are code and options
 at random. Each runs with as many places as the lists can have, and once more with few; what a list without room must answer, 13, is worked
-out from the original's own lists. Prints how many agreed and the first that did not, and fails if any did not.
+out from the original's own lists. With LISTFN, the path of the listing program, one request in twenty goes through it too; it must print the end of
+the original's listing. Prints how many agreed and the first that did not, and fails if any did not.
 """
 import collections
 import random
@@ -77,18 +78,30 @@ def with_few(listing, start, places):
     return '\n'.join(lines)
 
 
+def listed(program, at, request):
+    """What the listing program prints. It reads one request and knows no existing starts."""
+    return listings(program, request.pack())[0] if program and at % 20 == 0 and not request.existing else None
+
+
+def end_of(listing):
+    """The record and its lists, or the refusal."""
+    lines = [line for line in listing.splitlines() if not line.startswith('register')]
+    return '\n'.join(lines[max(i for i, line in enumerate(lines) if line.startswith(('function', 'refused'))):])
+
+
 class Tally:
     """Of the requests: the ends of those compared, how many had rich lists, and how many did not agree, with all places or with few."""
 
     def __init__(self):
-        self.ends, self.few, self.rich, self.left_out, self.different = collections.Counter(), collections.Counter(), 0, 0, 0
+        self.ends, self.few = collections.Counter(), collections.Counter()
+        self.rich = self.listed = self.left_out = self.different = 0
 
     def agree(self, name, expected, given, request, places):
         if expected != given and not self.different:
             print(f'{name}, places {places}, request {request.pack().hex()}\nthe original:\n{expected}\nhere:\n{given}')
         return expected == given
 
-    def add(self, request, expected, given, few, places):
+    def add(self, request, expected, given, few, places, listing):
         if expected.startswith('outside') or not walk.comparable(request, expected):
             self.left_out += 1
             return
@@ -102,11 +115,15 @@ class Tally:
         else:
             self.few['13' if wanted.splitlines()[-1].startswith('refused 13') else 'not 13'] += 1
             same &= self.agree('few places', wanted, few, request, places)
+        if listing is not None:
+            self.listed += 1
+            same &= self.agree('listfn', end_of(expected), listing, request, MOST)
         self.different += not same
 
 
 def main():
     oracle, program, count, seed = sys.argv[1], sys.argv[2], int(sys.argv[3]), int(sys.argv[4])
+    listfn = sys.argv[5] if len(sys.argv) > 5 else None
     tally = Tally()
     random.seed(seed)
     for first in range(0, count, BATCH):
@@ -116,12 +133,13 @@ def main():
         given = listings(program, b''.join(with_places(request, MOST) for request in requests))
         few = listings(program, b''.join(with_places(*pair) for pair in zip(requests, places)))
         assert len(expected) == len(given) == len(few) == len(requests)
-        for parts in zip(requests, expected, given, few, places):
+        listings_given = [listed(listfn, at, request) for at, request in enumerate(requests)]
+        for parts in zip(requests, expected, given, few, places, listings_given):
             tally.add(*parts)
     compared = sum(tally.ends.values())
     print(f'{compared - tally.different} agreed, {tally.different} did not, {tally.left_out} left out')
     print('ends:', dict(sorted(tally.ends.items(), key=str)), f'{tally.rich} accepted with rich lists')
-    print('with few places:', dict(sorted(tally.few.items())))
+    print('with few places:', dict(sorted(tally.few.items())), f'by listfn: {tally.listed}')
     sys.exit(tally.different > 0)
 
 
