@@ -1,11 +1,12 @@
 -- The parts of a call over the other lists, put together, are the call.
 -- Assumes nothing.
-use mathlib.Core.Path.{_≡_}
-use mathlib.Core.Bool.{true, false}
+use mathlib.Core.Path.{_≡_, sym, ap, _∙_}
+use mathlib.Core.Bool.{Bool, true, false}
 use mathlib.Core.List.{List}
 use Prim.Native.Nat.{ℕ}
 use lib.ListN.{length}
 use borrow.Author.Tests.{eq-eqb, ne-eqb}
+use Rattle.arm.specs.declared.Ins.{Ins}
 use Rattle.apply.specs.Apply.{Lists, allZero, noCounts}
 use Rattle.calls.specs.declared.Call.{Call}
 use Rattle.calls.specs.Fields.{none}
@@ -21,6 +22,7 @@ use Rattle.walk.specs.declared.Counts.{Counts}
 use Rattle.walk.specs.declared.Edit.{Edit}
 use Rattle.walk.specs.declared.Options.{Options}
 use Rattle.walk.specs.declared.Walk.{Walk}
+use Rattle.walk.specs.HandleIns.{askedOf}
 use Rattle.walk.specs.IntoFunction.{begun}
 use Rattle.host.specs.declared.plain.Told.{Told}
 use Rattle.host.specs.declared.plain.Taken.{Taken}
@@ -36,6 +38,13 @@ module _ (w : Walk) (e : Edit) (l : Lists) where
       → Took (record { stepped = record { walk = w; answer = w .result }; does = d; call = k }) l (settledBy w e l)
   unfolding settledBy
   settles-kept k d t hk hd = record { gives = rw (t, hk, hd); holds = rw t }
+
+pub looked-asked : (o : Options) (w : Walk) (word : ℕ) (code starts labels pools inlines inlineSizes : List ℕ) (called : Bool) (k : Looked)
+    → k ≡ lookedWith o w word code starts labels pools inlines inlineSizes called
+    → k .asked ≡ askedOf w word (k .ins)
+unfolding lookedWith
+looked-asked o w word code starts labels pools inlines inlineSizes called k e =
+    ap (λ (x : Looked). x .asked) e ∙ ap (λ (i : Ins). askedOf w word i) (sym (ap (λ (x : Looked). x .ins) e))
 
 module _ (o : Options) (w : Walk) (word : ℕ) (code starts : List ℕ) (l : Lists) (t : Told) where
   pub walks-word : (k : Looked) (after : Walk) (m : Lists) (r : Taken) (x : Lists)

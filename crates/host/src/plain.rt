@@ -22,6 +22,7 @@ ghost use Rattle.calls.specs.Fields.{none};
 ghost use Rattle.apply.specs.Apply.{lists, allZero};
 ghost use Rattle.functions.specs.Calls.{refused};
 ghost use Rattle.stepping.specs.Stepping.{Walked};
+ghost use Rattle.walk.specs.HandleIns.{askedOf};
 ghost use Rattle.host.specs.Plain.{calledAs, lookedWith, countedWith, appliedWith, callOf, doesOf, changedBy};
 ghost use Rattle.host.specs.Plain.{Took, stays, settledBy, walkedWordBy, walkedBy, numberBy, takenBy, openedBy};
 
@@ -90,9 +91,11 @@ fn look(
     );
     let found = called_as(looked_up, is_called_next);
     let seen = observe::see(code, o.base, p, found.is_called_next, ins);
-    let decision = handle_ins::handle_ins(o, w, found, seen, word, ins);
+    let asked = handle_ins::ask(w, word, ins);
+    let decision = handle_ins::handle_ins(o, w, found, seen, asked, ins);
     Looked {
         ins,
+        asked,
         found,
         seen,
         decision,
@@ -231,11 +234,12 @@ fn change(
     inline_sizes: &mut [u32],
     told: Told,
 ) -> Walk
-    requires { ⌜ w .progress .address + 4 < 2 ^ 32 ⌝ }
+    requires { ⌜ (w .progress .address + 4 < 2 ^ 32) × (looked .asked ≡ askedOf w word (looked .ins)) ⌝ }
     ensures { λ r. ⌜ Walked r (lists (now (labels .exit)) (now (pools .exit)) (now («pool_values» .exit)) (now («pool_marks» .exit)) (now («jump_tables» .exit)) (now («jump_sizes» .exit)) (now («inline_tables» .exit)) (now («inline_sizes» .exit)) [] [] [] []) (changedBy o w word looked (lists (now (labels .entry)) (now (pools .entry)) (now («pool_values» .entry)) (now («pool_marks» .entry)) (now («jump_tables» .entry)) (now («jump_sizes» .entry)) (now («inline_tables» .entry)) (now («inline_sizes» .entry)) [] [] [] []) told) ⌝ }
 {
     let counts = w.counts;
     let ins = looked.ins;
+    let asked = looked.asked;
     let found = looked.found;
     let seen = looked.seen;
     let decision = looked.decision;
@@ -266,7 +270,7 @@ fn change(
         w,
         found,
         seen,
-        word,
+        asked,
         ins,
         then,
         applied_with(edit, applied, counts, told),

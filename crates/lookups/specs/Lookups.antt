@@ -77,3 +77,27 @@ lookedUp a target starts labels pools inlineTables inlineSizes destinations n = 
   label = withMore (labelAt labels (n .labels) (a + 4)) target (a + 4);
   «after_pools» = afterPools pools (n .pools) (a + 4);
 }
+
+-- what a step asks of the lists, where it asks it: at a branch the start and the way past pools, behind a return the calls
+unfoldable pub askedLabel : Bool → List ℕ → ℕ → ℕ → ℕ → ℕ
+askedLabel isPool labels count target a = pick isPool (withMore (labelAt labels count a) target a) 0
+
+unfoldable pub askedGap : Bool → ℕ → List ℕ → ℕ → ℕ → AfterPools
+askedGap isPool label pools count a = pick isPool (pick (eqb label 0) (afterPools pools count a) (P-At a)) (P-At a)
+
+module _ (isBranch asksCalls : Bool) (a target : ℕ) (starts labels pools inlineTables inlineSizes destinations : List ℕ) (n : Counts) where
+  abbrev pub isPoolNext : Bool
+  isPoolNext = pick isBranch (held pools (n .pools) (a + 4)) false
+
+  abbrev pub labelNext : ℕ
+  labelNext = askedLabel isPoolNext labels (n .labels) target (a + 4)
+
+  unfoldable pub lookedFor : Found
+  lookedFor = record {
+    «data» = dataAt pools (n .pools) inlineTables inlineSizes (n .«inline_tables») a;
+    «is_called_next» = pick asksCalls (isAmong (n .calls) destinations (a + 4)) false;
+    «is_existing» = pick isBranch (held starts (length starts) target) false;
+    «is_pool_next» = isPoolNext;
+    label = labelNext;
+    «after_pools» = askedGap isPoolNext labelNext pools (n .pools) (a + 4);
+  }

@@ -11,6 +11,9 @@ use walk::Found;
 ghost use mathlib.Core.Path.{_≡_};
 ghost use Prim.Native.Nat.{_+_, _<_, _^_};
 ghost use Rattle.lookups.specs.Lookups.{tableEnd, holds, tableAt, dataAt, isAmong, labelAt, withMore, firstOf, lastOf, afterPools, lookedUp};
+ghost use mathlib.Core.Bool.{false};
+ghost use Rattle.lists.specs.Place.{pick, held};
+ghost use Rattle.lookups.specs.Lookups.{askedLabel, askedGap, lookedFor};
 
 // A table's end, or that it leaves 32 bits.
 fn table_end(table: u32, size: u32) -> Data
@@ -145,6 +148,7 @@ fn after_pools(pools: &[u32], count: usize, address: u32) -> AfterPools
     }
 }
 
+// All that a step may ask.
 pub fn look_up(
     address: u32,
     target: u32,
@@ -175,5 +179,84 @@ pub fn look_up(
         is_pool_next: search::contains(pools, counts.pools, next),
         label: with_more(label_at(labels, counts.labels, next), target, next),
         after_pools: after_pools(pools, counts.pools, next),
+    }
+}
+
+// An address that is looked for only where it is asked for.
+fn is_held(asks: bool, keys: &[u32], count: usize, address: u32) -> bool
+    ensures { λ r. ⌜ r ≡ pick asks (held (now (keys .entry)) count address) false ⌝ }
+{
+    if asks {
+        return search::contains(keys, count, address);
+    }
+    false
+}
+
+fn is_called(asks: bool, destinations: &[u32], count: usize, address: u32) -> bool
+    ensures { λ r. ⌜ r ≡ pick asks (isAmong count (now (destinations .entry)) address) false ⌝ }
+{
+    if asks {
+        return is_among(destinations, count, address);
+    }
+    false
+}
+
+// The label that a branch goes on at where a pool is next.
+fn asked_label(is_pool: bool, labels: &[u32], count: usize, target: u32, address: u32) -> u32
+    ensures { λ r. ⌜ r ≡ askedLabel «is_pool» (now (labels .entry)) count target address ⌝ }
+{
+    if is_pool {
+        return with_more(label_at(labels, count, address), target, address);
+    }
+    0
+}
+
+// The first address past the pools, where no label is.
+fn asked_gap(is_pool: bool, label: u32, pools: &[u32], count: usize, address: u32) -> AfterPools
+    ensures { λ r. ⌜ r ≡ askedGap «is_pool» label (now (pools .entry)) count address ⌝ }
+{
+    if is_pool {
+        if label == 0 {
+            return after_pools(pools, count, address);
+        }
+    }
+    AfterPools::At(address)
+}
+
+// What the source asks at this instruction, and nothing else.
+pub fn look_up_asked(
+    is_branch: bool,
+    asks_calls: bool,
+    address: u32,
+    target: u32,
+    starts: &[u32],
+    labels: &[u32],
+    pools: &[u32],
+    inline_tables: &[u32],
+    inline_sizes: &[u32],
+    call_destinations: &[u32],
+    counts: Counts,
+) -> Found
+    requires { ⌜ address + 4 < 2 ^ 32 ⌝ }
+    ensures { λ r. ⌜ r ≡ lookedFor «is_branch» «asks_calls» address target (now (starts .entry)) (now (labels .entry)) (now (pools .entry)) (now («inline_tables» .entry)) (now («inline_sizes» .entry)) (now («call_destinations» .entry)) counts ⌝ }
+{
+    let next = address + 4;
+    let data = data_at(
+        pools,
+        counts.pools,
+        inline_tables,
+        inline_sizes,
+        counts.inline_tables,
+        address,
+    );
+    let is_pool_next = is_held(is_branch, pools, counts.pools, next);
+    let label = asked_label(is_pool_next, labels, counts.labels, target, next);
+    Found {
+        data,
+        is_called_next: is_called(asks_calls, call_destinations, counts.calls, next),
+        is_existing: is_held(is_branch, starts, starts.len(), target),
+        is_pool_next,
+        label,
+        after_pools: asked_gap(is_pool_next, label, pools, counts.pools, next),
     }
 }

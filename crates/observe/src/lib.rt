@@ -46,10 +46,10 @@ fn asks_next(p: Progress, is_called_next: bool, ins: Ins) -> bool
     requires { ⌜ p .address + 4 < 2 ^ 32 ⌝ }
     ensures { λ r. ⌜ r ≡ asksNext p «is_called_next» ins ⌝ }
 {
-    let previous = p.previous;
-    if predicates::is_return(p.address, ins, previous) {
+    if is_called_next {
         if p.address + 4 < p.last_pool_address {
-            return is_called_next;
+            let previous = p.previous;
+            return predicates::is_return(p.address, ins, previous);
         }
     }
     false

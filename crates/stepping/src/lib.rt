@@ -6,22 +6,37 @@ use observe::Word;
 use walk::Decision;
 use walk::Found;
 use walk::Options;
+use walk::Progress;
 use walk::Seen;
 use walk::Walk;
 use walk::handle_ins;
+use walk::handle_ins::Asked;
 ghost use mathlib.Core.Path.{_≡_};
 ghost use Prim.Native.Nat.{_+_, _<_, _≤_, _^_};
 ghost use lib.ListN.{length};
 ghost use Rattle.apply.specs.Apply.{lists};
-ghost use Rattle.stepping.specs.Stepping.{Walked, lookedAt, changed, walkedWord, walked};
+ghost use Rattle.stepping.specs.Stepping.{Walked, asksCalls, lookedAsked, changed, walkedWord, walked};
+ghost use Rattle.walk.specs.HandleIns.{askedOf};
 
 // What a step has found out before it changes anything. An ending step inserts no pool, so the first pool is the list's as it stands.
 pub struct Looked {
     pub ins: Ins,
+    pub asked: Asked,
     pub found: Found,
     pub seen: Seen,
     pub decision: Decision,
     pub first_pool: u32,
+}
+
+// Behind a return it is asked whether a long branch goes there, which a call may be.
+fn asks_calls(p: Progress, is_return: bool) -> bool
+    requires { ⌜ p .address + 4 < 2 ^ 32 ⌝ }
+    ensures { λ r. ⌜ r ≡ asksCalls p «is_return» ⌝ }
+{
+    if is_return {
+        return p.address + 4 < p.last_pool_address;
+    }
+    false
 }
 
 fn look(
@@ -37,12 +52,16 @@ fn look(
     call_destinations: &[u32],
 ) -> Looked
     requires { ⌜ w .progress .address + 4 < 2 ^ 32 ⌝ }
-    ensures { λ r. ⌜ r ≡ lookedAt o w word (now (code .entry)) (now (starts .entry)) (now (labels .entry)) (now (pools .entry)) (now («inline_tables» .entry)) (now («inline_sizes» .entry)) (now («call_destinations» .entry)) ⌝ }
+    ensures { λ r. ⌜ r ≡ lookedAsked o w word (now (code .entry)) (now (starts .entry)) (now (labels .entry)) (now (pools .entry)) (now («inline_tables» .entry)) (now («inline_sizes» .entry)) (now («call_destinations» .entry)) ⌝ }
 {
     let p = w.progress;
     let counts = w.counts;
     let ins = arm::decode(word, p.address);
-    let found = lookups::look_up(
+    let asked = handle_ins::ask(w, word, ins);
+    let shape = asked.shape;
+    let found = lookups::look_up_asked(
+        shape.is_branch,
+        asks_calls(p, shape.is_return),
         p.address,
         ins.target,
         starts,
@@ -54,9 +73,10 @@ fn look(
         counts,
     );
     let seen = observe::see(code, o.base, p, found.is_called_next, ins);
-    let decision = handle_ins::handle_ins(o, w, found, seen, word, ins);
+    let decision = handle_ins::handle_ins(o, w, found, seen, asked, ins);
     Looked {
         ins,
+        asked,
         found,
         seen,
         decision,
@@ -83,11 +103,12 @@ fn change(
     call_destinations: &mut [u32],
     call_modes: &mut [u32],
 ) -> Walk
-    requires { ⌜ w .progress .address + 4 < 2 ^ 32 ⌝ }
+    requires { ⌜ (w .progress .address + 4 < 2 ^ 32) × (looked .asked ≡ askedOf w word (looked .ins)) ⌝ }
     ensures { λ r. ⌜ Walked r (lists (now (labels .exit)) (now (pools .exit)) (now («pool_values» .exit)) (now («pool_marks» .exit)) (now («jump_tables» .exit)) (now («jump_sizes» .exit)) (now («inline_tables» .exit)) (now («inline_sizes» .exit)) (now (calls .exit)) (now («call_words» .exit)) (now («call_destinations» .exit)) (now («call_modes» .exit))) (changed o w word looked (lists (now (labels .entry)) (now (pools .entry)) (now («pool_values» .entry)) (now («pool_marks» .entry)) (now («jump_tables» .entry)) (now («jump_sizes» .entry)) (now («inline_tables» .entry)) (now («inline_sizes» .entry)) (now (calls .entry)) (now («call_words» .entry)) (now («call_destinations» .entry)) (now («call_modes» .entry)))) ⌝ }
 {
     let counts = w.counts;
     let ins = looked.ins;
+    let asked = looked.asked;
     let found = looked.found;
     let seen = looked.seen;
     let decision = looked.decision;
@@ -114,7 +135,7 @@ fn change(
         w,
         found,
         seen,
-        word,
+        asked,
         ins,
         then,
         applied,

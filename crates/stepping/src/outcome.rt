@@ -9,10 +9,12 @@ use walk::Seen;
 use walk::Then;
 use walk::Walk;
 use walk::handle_ins;
+use walk::handle_ins::Asked;
 use walk::into_function;
 use walk::moving;
 ghost use mathlib.Core.Path.{_≡_};
 ghost use Prim.Native.Nat.{_+_, _<_, _^_};
+ghost use Rattle.walk.specs.HandleIns.{askedOf};
 ghost use Rattle.stepping.specs.Outcome.{isGoing, isRefused, countsFor, endedAt, refusedAt, noEpilogue, countedTo, afterThen, afterApplied};
 
 pub fn is_going(answer: Answer) -> bool
@@ -120,19 +122,19 @@ fn after_then(
     w: Walk,
     f: Found,
     v: Seen,
-    word: u32,
+    a: Asked,
     ins: Ins,
     then: Then,
     counts: Counts,
     first_pool: u32,
 ) -> Walk
-    requires { ⌜ w .progress .address + 4 < 2 ^ 32 ⌝ }
-    ensures { λ r. ⌜ r ≡ afterThen o w f v word ins then counts «first_pool» ⌝ }
+    requires { ⌜ (w .progress .address + 4 < 2 ^ 32) × (a ≡ askedOf w (a .shape .word) ins) ⌝ }
+    ensures { λ r. ⌜ r ≡ afterThen o w f v (a .shape .word) ins then counts «first_pool» ⌝ }
 {
     let p = w.progress;
     match then {
         Then::Skips(at) => counted_to(handle_ins::skipped_past(w, ins, at), counts),
-        Then::Goes(at) => counted_to(handle_ins::gone_to(o, w, f, v, word, ins, at), counts),
+        Then::Goes(at) => counted_to(handle_ins::gone_to(o, w, f, v, a, ins, at), counts),
         Then::Ends(at) => ended(
             w,
             at,
@@ -149,18 +151,18 @@ pub fn after_applied(
     w: Walk,
     f: Found,
     v: Seen,
-    word: u32,
+    a: Asked,
     ins: Ins,
     then: Then,
     applied: Applied,
     first_pool: u32,
 ) -> Walk
-    requires { ⌜ w .progress .address + 4 < 2 ^ 32 ⌝ }
-    ensures { λ r. ⌜ r ≡ afterApplied o w f v word ins then applied «first_pool» ⌝ }
+    requires { ⌜ (w .progress .address + 4 < 2 ^ 32) × (a ≡ askedOf w (a .shape .word) ins) ⌝ }
+    ensures { λ r. ⌜ r ≡ afterApplied o w f v (a .shape .word) ins then applied «first_pool» ⌝ }
 {
     if applied.is_full {
         return refused_at(w, 13, 0);
     }
     let counts = applied.counts;
-    after_then(o, w, f, v, word, ins, then, counts, first_pool)
+    after_then(o, w, f, v, a, ins, then, counts, first_pool)
 }

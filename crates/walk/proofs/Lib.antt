@@ -1,2 +1,4 @@
 -- The laws of `specs/`, for the proofs of the crates that link this one.
+pub mod AskedLaws
 pub mod MoveLaws
+pub mod UnaskedLaws

@@ -22,6 +22,7 @@ use Rattle.walk.specs.declared.Edit.{Edit}
 use Rattle.walk.specs.declared.Edit.the-variants.{Nothing, JumpTable, InlineTable}
 use Rattle.walk.specs.declared.Machines.{Machines}
 use Rattle.walk.specs.declared.Signs.{Signs}
+use Rattle.walk.specs.declared.advancing.Advanced.{Advanced}
 use Rattle.walk.specs.declared.advancing.Jumped.{Jumped}
 use Rattle.walk.specs.declared.advancing.Inlined.{Inlined}
 
@@ -75,3 +76,6 @@ signsOf m address i = record {
   «is_inline_refused» = inlined (m .«inline_table») address i .«is_refused»;
   «inline_table» = inlined (m .«inline_table») address i .edit;
 }
+
+abbrev pub advancing : Machines → ℕ → Ins → Advanced
+advancing m address i = record { machines = advanced m address i; signs = signsOf m address i }

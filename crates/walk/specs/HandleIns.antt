@@ -15,12 +15,20 @@ use Rattle.walk.specs.declared.Options.{Options}
 use Rattle.walk.specs.declared.Seen.{Seen}
 use Rattle.walk.specs.declared.Then.the-variants.{Skips, Refuses}
 use Rattle.walk.specs.declared.Walk.{Walk}
+use Rattle.walk.specs.declared.handle_ins.Asked.{Asked}
 use Rattle.walk.specs.Asking.{shapeOf}
-use Rattle.walk.specs.Advancing.{advanced, signsOf}
+use Rattle.walk.specs.Advancing.{advanced, signsOf, advancing}
 use Rattle.walk.specs.Edits.{markOf}
 use Rattle.walk.specs.Checking.{undefinedRegister, definedAfter}
 use Rattle.walk.specs.Decide.{decided}
 use Rattle.walk.specs.Moving.{progressAfter, skippedTo}
+
+-- what a step asks of its instruction and of the machines
+unfoldable pub askedOf : Walk → ℕ → Ins → Asked
+askedOf w word i = record {
+  shape = shapeOf word (w .progress .address) i (w .progress .previous);
+  advanced = advancing (w .machines) (w .progress .address) i;
+}
 
 module _ (o : Options) (w : Walk) (f : Found) (v : Seen) (word : ℕ) (i : Ins) where
   unfoldable pub handleCode : Decision

@@ -13,7 +13,7 @@ use arm::Ins;
 ghost use mathlib.Core.Path.{_≡_};
 ghost use Rattle.analysis.specs.InlineTable.{tableOf};
 ghost use Rattle.analysis.specs.JumpTable.{tableEnd};
-ghost use Rattle.walk.specs.Advancing.{jumpedTo, jumped, tableEdit, inlined, reasonOf, advanced, signsOf};
+ghost use Rattle.walk.specs.Advancing.{jumpedTo, jumped, tableEdit, inlined, reasonOf, advancing};
 
 // The jump table machine: its next state, the table that it records, and its end or 0.
 pub struct Jumped {
@@ -21,6 +21,12 @@ pub struct Jumped {
     pub state: JumpTableStateArm,
     pub edit: Edit,
     pub end: u32,
+}
+
+// The four machines: their next states, and what they tell the walk.
+pub struct Advanced {
+    pub machines: Machines,
+    pub signs: Signs,
 }
 
 // The inline table machine: its next state and the table that it records.
@@ -115,43 +121,37 @@ fn reason_of(state: IllegalCodeState) -> u8
     }
 }
 
-pub fn advance(machines: Machines, address: u32, ins: Ins) -> Machines
-    ensures { λ r. ⌜ r ≡ advanced machines address ins ⌝ }
+// The machines' next states, and what they tell the walk.
+pub fn advance(machines: Machines, address: u32, ins: Ins) -> Advanced
+    ensures { λ r. ⌜ r ≡ advancing machines address ins ⌝ }
 {
     let jump_table = machines.jump_table;
     let function_branch = machines.function_branch;
     let inline_table = machines.inline_table;
     let illegal_code = machines.illegal_code;
     let jumped = jump(jump_table, address, ins);
+    let branched = function_branch.handle(ins);
     let inlined = inline(inline_table, address, ins);
+    let coded = illegal_code.handle(ins);
     let after_jump = jumped.state;
     let after_inline = inlined.state;
-    Machines {
-        jump_table: after_jump,
-        function_branch: function_branch.handle(ins),
-        inline_table: after_inline,
-        illegal_code: illegal_code.handle(ins),
-    }
-}
-
-pub fn signs(machines: Machines, address: u32, ins: Ins) -> Signs
-    ensures { λ r. ⌜ r ≡ signsOf machines address ins ⌝ }
-{
-    let jump_table = machines.jump_table;
-    let function_branch = machines.function_branch;
-    let inline_table = machines.inline_table;
-    let illegal_code = machines.illegal_code;
-    let jumped = jump(jump_table, address, ins);
-    let inlined = inline(inline_table, address, ins);
     let jump_edit = jumped.edit;
     let inline_edit = inlined.edit;
-    Signs {
-        is_jump_refused: jumped.is_refused,
-        jump_table: jump_edit,
-        table_end: jumped.end,
-        reason: reason_of(illegal_code.handle(ins)),
-        is_function_branch: function_branch.handle(ins).is_function_branch(),
-        is_inline_refused: inlined.is_refused,
-        inline_table: inline_edit,
+    Advanced {
+        machines: Machines {
+            jump_table: after_jump,
+            function_branch: branched,
+            inline_table: after_inline,
+            illegal_code: coded,
+        },
+        signs: Signs {
+            is_jump_refused: jumped.is_refused,
+            jump_table: jump_edit,
+            table_end: jumped.end,
+            reason: reason_of(coded),
+            is_function_branch: branched.is_function_branch(),
+            is_inline_refused: inlined.is_refused,
+            inline_table: inline_edit,
+        },
     }
 }

@@ -1,4 +1,5 @@
 -- `change` meets its contract.
+use Rattle.walk.proofs.AskedLaws.{asked-word, asked-itself}
 use Rattle.stepping.specs.Stepping.{changed}
 use borrow.Author.Needs.{needs}
 use Rattle.stepping.proofs.change.Statement.{statement}
@@ -8,7 +9,9 @@ apply-requires : tie.Need-apply-requires
 apply-requires c κs = search needs
 
 after-applied-requires : tie.Need-after-applied-requires
-after-applied-requires c κs = c .before .before .before .before .before .before .before .before .before .before .before .before .before .before .before .before .before .before .before .before .before .before .before .before .before .before .before .before .before .before .before .before .before .before .before .before .before .before .before .before .before .before .before .before .before .before .before .before .before .before .before .before .before .before .pre
+after-applied-requires c κs =
+    let start = c .before .before .before .before .before .before .before .before .before .before .before .before .before .before .before .before .before .before .before .before .before .before .before .before .before .before .before .before .before .before .before .before .before .before .before .before .before .before .before .before .before .before .before .before .before .before .before .before .before .before .before .before .before .before .before in
+    (start .pre .0, asked-itself _ _ _ _ (start .pre .1))
 
 same-length : tie.Need-same-length
 same-length c = search (needs, c .before .before .before .before .before .before .before .before .before .before .before .before .before .before .before .before .before .before .before .before .before .before .before .before .before .apply .kept)
@@ -49,7 +52,7 @@ same-length-12 c = search (needs, c .before .before .before .before .before .bef
 returns : tie.Need-returns
 unfolding changed
 returns c = record {
-  goes = rw (← c .before .before .before .before .before .before .before .before .before .before .before .before .before .before .before .before .before .before .before .before .before .before .before .before .before .apply .ensures .0) (c .after-applied .ensures);
+  goes = rw (← c .before .before .before .before .before .before .before .before .before .before .before .before .before .before .before .before .before .before .before .before .before .before .before .before .before .apply .ensures .0, ← asked-word _ _ _ _ (c .before .before .before .before .before .before .before .before .before .before .before .before .before .before .before .before .before .before .before .before .before .before .before .before .before .before .before .before .before .before .before .before .before .before .before .before .before .before .before .before .before .before .before .before .before .before .before .before .before .before .before .before .before .before .before .before .pre .1)) (c .after-applied .ensures);
   holds = c .before .before .before .before .before .before .before .before .before .before .before .before .before .before .before .before .before .before .before .before .before .before .before .before .before .apply .ensures .1;
 }
 

@@ -1,5 +1,5 @@
 -- `walk_word` meets its contract.
-use Rattle.stepping.specs.Stepping.{walkedWord}
+use Rattle.stepping.proofs.AskedLaws.{walks-asked, looked-asked}
 use borrow.Author.Needs.{needs}
 use Rattle.stepping.proofs.walk_word.Statement.{statement}
 use Rattle.stepping.proofs.walk_word.Tie as tie
@@ -8,7 +8,7 @@ look-requires : tie.Need-look-requires
 look-requires c κs = c .before .before .before .before .before .before .before .before .before .before .before .before .before .before .before .before .before .before .before .pre
 
 change-requires : tie.Need-change-requires
-change-requires c κs = c .before .before .before .before .before .before .before .before .before .before .before .before .before .before .before .before .before .before .before .before .before .before .before .before .before .before .before .before .before .before .before .before .pre
+change-requires c κs = (c .before .before .before .before .before .before .before .before .before .before .before .before .before .before .before .before .before .before .before .before .before .before .before .before .before .before .before .before .before .before .before .before .pre, looked-asked _ _ _ _ _ _ _ _ _ _ _ (c .before .before .before .before .before .before .before .before .before .before .before .before .look .ensures))
 
 same-length : tie.Need-same-length
 same-length c = search (needs, c .before .before .before .before .before .before .before .before .before .before .before .before .before .before .before .before .before .before .before .before .before .before .before .before .change .kept)
@@ -47,8 +47,7 @@ same-length-12 : tie.Need-same-length-12
 same-length-12 c = search (needs, c .before .before .before .before .before .before .before .before .before .before .before .before .before .before .before .before .before .before .before .before .before .before .before .before .change .kept)
 
 returns : tie.Need-returns
-unfolding walkedWord
-returns c = rw (← c .before .before .before .before .before .before .before .before .before .before .before .before .before .before .before .before .before .before .before .before .before .before .before .before .before .before .before .before .before .before .before .before .before .before .before .before .before .look .ensures) (c .before .before .before .before .before .before .before .before .before .before .before .before .before .before .before .before .before .before .before .before .before .before .before .before .change .ensures)
+returns c = walks-asked _ _ _ _ _ _ _ _ _ (c .before .before .before .before .before .before .before .before .before .before .before .before .before .before .before .before .before .before .before .before .before .before .before .before .before .before .before .before .before .before .before .before .before .before .before .before .before .look .ensures) (c .before .before .before .before .before .before .before .before .before .before .before .before .before .before .before .before .before .before .before .before .before .before .before .before .change .ensures)
 
 pub walk-word-spec : {M : Type 1} → statement M
 walk-word-spec =

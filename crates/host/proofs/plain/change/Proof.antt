@@ -1,5 +1,6 @@
 -- `change` meets its contract.
 use mathlib.Core.Path.{ap}
+use Rattle.walk.proofs.AskedLaws.{asked-word, asked-itself}
 use Rattle.host.specs.Plain.{others, changedBy}
 use borrow.Author.Needs.{needs}
 use Rattle.host.proofs.plain.change.Statement.{statement}
@@ -24,7 +25,9 @@ applied-with-requires : tie.Need-applied-with-requires
 applied-with-requires c κs = search needs
 
 after-applied-requires : tie.Need-after-applied-requires
-after-applied-requires c κs = c .before .before .before .before .before .before .before .before .before .before .before .before .before .before .before .before .before .before .before .before .before .before .before .before .before .before .before .before .before .before .before .before .before .before .before .before .before .before .before .before .before .before .before .before .before .before .before .pre
+after-applied-requires c κs =
+    let start = c .before .before .before .before .before .before .before .before .before .before .before .before .before .before .before .before .before .before .before .before .before .before .before .before .before .before .before .before .before .before .before .before .before .before .before .before .before .before .before .before .before .before .before .before .before .before .before .before in
+    (start .pre .0, asked-itself _ _ _ _ (start .pre .1))
 
 same-length : tie.Need-same-length
 same-length c = search (needs, c .before .before .before .before .before .before .before .before .before .before .before .before .before .before .before .before .before .before .before .before .before .before .apply .kept)
@@ -52,7 +55,7 @@ same-length-8 c = search (needs, c .before .before .before .before .before .befo
 
 returns : tie.Need-returns
 unfolding changedBy
-returns c = record { goes = rw (← c .before .before .before .before .before .before .before .before .before .before .before .before .before .before .before .before .before .before .before .before .before .before .apply .ensures .0, ← c .before .applied-with .ensures) (c .after-applied .ensures); holds = ap others (c .before .before .before .before .before .before .before .before .before .before .before .before .before .before .before .before .before .before .before .before .before .before .apply .ensures .1) }
+returns c = record { goes = rw (← c .before .before .before .before .before .before .before .before .before .before .before .before .before .before .before .before .before .before .before .before .before .before .apply .ensures .0, ← c .before .applied-with .ensures, ← asked-word _ _ _ _ (c .before .before .before .before .before .before .before .before .before .before .before .before .before .before .before .before .before .before .before .before .before .before .before .before .before .before .before .before .before .before .before .before .before .before .before .before .before .before .before .before .before .before .before .before .before .before .before .before .before .pre .1)) (c .after-applied .ensures); holds = ap others (c .before .before .before .before .before .before .before .before .before .before .before .before .before .before .before .before .before .before .before .before .before .before .apply .ensures .1) }
 
 pub change-spec : {M : Type 1} → statement M
 change-spec =

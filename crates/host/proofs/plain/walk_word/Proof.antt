@@ -1,6 +1,6 @@
 -- `walk_word` meets its contract.
 use native.Mathlib.Omega.{arith}
-use Rattle.host.proofs.PlainLaws.{walks-word}
+use Rattle.host.proofs.PlainLaws.{looked-asked, walks-word}
 use borrow.Author.Needs.{needs}
 use Rattle.host.proofs.plain.walk_word.Statement.{statement}
 use Rattle.host.proofs.plain.walk_word.Tie as tie
@@ -9,7 +9,7 @@ look-requires : tie.Need-look-requires
 look-requires c κs = search needs
 
 change-requires : tie.Need-change-requires
-change-requires c κs = c .before .before .before .before .before .before .before .before .before .before .before .before .before .before .before .before .before .before .before .before .before .before .before .before .pre
+change-requires c κs = (c .before .before .before .before .before .before .before .before .before .before .before .before .before .before .before .before .before .before .before .before .before .before .before .before .pre, looked-asked _ _ _ _ _ _ _ _ _ _ _ (c .before .before .before .before .before .before .before .before .before .look .ensures))
 
 settle-requires : tie.Need-settle-requires
 settle-requires c κs = search needs
