@@ -1,15 +1,17 @@
 #!/usr/bin/env python3
 """Compares fresh requests with the original, call by call: the answer, every list after each step, and the register of 11.
 
-Usage: fresh.py WALK WALKS COUNT SEED [LISTFN]
+Usage: fresh.py WALK PROGRAMS COUNT SEED
 
-WALK is the path of the built oracle, WALKS that of this repository's `walks` (target/bin/walks after `rt check walks`). Of the requests three in
-ten are rich functions (rich.py), about as many are planned or rich ones with words and options changed, and the others are code and options
-at random. Each runs with as many places as the lists can have, and once more with few; what a list without room must answer, 13, is worked
-out from the original's own lists. With LISTFN, the path of the listing program, one request in twenty goes through it too; it must print the end of
-the original's listing. Prints how many agreed and the first that did not, and fails if any did not.
+WALK is the path of the built oracle, PROGRAMS the folder with this repository's `walks`, `listings` and `listfn` (target/bin after `rt check walks
+listings listfn`). Of the requests three in ten are rich functions (rich.py), about as many are planned or rich ones with words and options changed,
+and the others are code and options at random. Each runs in `walks` with as many places as the lists can have, and once more with few; what a list
+without room must answer, 13, is worked out from the original's own lists. Each that has no existing starts, which the listing program does not
+know, goes through `listings` too, and the first ten of each batch through `listfn`: they must print the end of the original's listing. Prints how many
+agreed and the first that did not, and fails if any did not.
 """
 import collections
+import pathlib
 import random
 import re
 import struct
@@ -20,6 +22,7 @@ import walk
 from rich import rich
 
 BATCH = 2000
+LISTFN = 10
 MOST = (1024, 1024, 64, 64, 1024)
 KINDS = ('label', 'pool', 'jump', 'inline', 'call')
 
@@ -78,9 +81,20 @@ def with_few(listing, start, places):
     return '\n'.join(lines)
 
 
-def listed(program, at, request):
-    """What the listing program prints. It reads one request and knows no existing starts."""
-    return listings(program, request.pack())[0] if program and at % 20 == 0 and not request.existing else None
+def listed(programs, requests):
+    """What the listing program prints for each request, or None for one with existing starts: by `listings`, and for the first ones by `listfn` too, which
+    must be the same."""
+    inputs = [request.pack() for request in requests if not request.existing]
+    framed = b''.join(struct.pack('>I', len(data)) + data for data in inputs)
+    said = subprocess.run([programs / 'listings'], input=framed, capture_output=True, check=True).stdout.decode()
+    texts = [text.strip('\n') for text in re.split(r'^(?=function |refused )', said, flags=re.M)[1:]]
+    assert len(texts) == len(inputs)
+    for data, text in list(zip(inputs, texts))[:LISTFN]:
+        alone = listings(programs / 'listfn', data)
+        if alone != [text]:
+            sys.exit(f'listfn, request {data.hex()}\nlistings:\n{text}\nlistfn:\n{alone}')
+    left = iter(texts)
+    return [None if request.existing else next(left) for request in requests]
 
 
 def end_of(listing):
@@ -117,29 +131,27 @@ class Tally:
             same &= self.agree('few places', wanted, few, request, places)
         if listing is not None:
             self.listed += 1
-            same &= self.agree('listfn', end_of(expected), listing, request, MOST)
+            same &= self.agree('listings', end_of(expected), listing, request, MOST)
         self.different += not same
 
 
 def main():
-    oracle, program, count, seed = sys.argv[1], sys.argv[2], int(sys.argv[3]), int(sys.argv[4])
-    listfn = sys.argv[5] if len(sys.argv) > 5 else None
+    oracle, programs, count, seed = sys.argv[1], pathlib.Path(sys.argv[2]), int(sys.argv[3]), int(sys.argv[4])
     tally = Tally()
     random.seed(seed)
     for first in range(0, count, BATCH):
         requests = [fresh() for _ in range(min(BATCH, count - first))]
         places = [tuple(random.choice((0, 1, 2, 3, 5, 64)) for _ in KINDS) for _ in requests]
         expected = original(oracle, requests)
-        given = listings(program, b''.join(with_places(request, MOST) for request in requests))
-        few = listings(program, b''.join(with_places(*pair) for pair in zip(requests, places)))
+        given = listings(programs / 'walks', b''.join(with_places(request, MOST) for request in requests))
+        few = listings(programs / 'walks', b''.join(with_places(*pair) for pair in zip(requests, places)))
         assert len(expected) == len(given) == len(few) == len(requests)
-        listings_given = [listed(listfn, at, request) for at, request in enumerate(requests)]
-        for parts in zip(requests, expected, given, few, places, listings_given):
+        for parts in zip(requests, expected, given, few, places, listed(programs, requests)):
             tally.add(*parts)
     compared = sum(tally.ends.values())
     print(f'{compared - tally.different} agreed, {tally.different} did not, {tally.left_out} left out')
     print('ends:', dict(sorted(tally.ends.items(), key=str)), f'{tally.rich} accepted with rich lists')
-    print('with few places:', dict(sorted(tally.few.items())), f'by listfn: {tally.listed}')
+    print('with few places:', dict(sorted(tally.few.items())), f'listed: {tally.listed}')
     sys.exit(tally.different > 0)
 
 
