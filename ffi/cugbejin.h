@@ -26,9 +26,10 @@ struct cugbejin_answer {
     uint64_t calls;
 };
 
-/* Refusals. After 1 to 4 every list is as it was; after 5 to 14 every place of every list is 0. */
+/* Refusals; docs/REFUSALS.md has an example of each. After 1 to 4 every list is as it was; after 5 to 14 every place of every list is 0. */
 enum cugbejin_refusal {
-    CUGBEJIN_WINDOW = 1,             /* base, code end or module outside 0x01FF8000 to 0x03000000, or module start above its end */
+    CUGBEJIN_WINDOW = 1,             /* base outside 0x01FF8000 to 0x03000000, code end or module end above 0x03000000, or module start above its
+                                        end */
     CUGBEJIN_START_OUTSIDE = 2,      /* start below base or past the code's end */
     CUGBEJIN_START_UNALIGNED = 3,    /* start no multiple of 4 */
     CUGBEJIN_STARTS_UNORDERED = 4,   /* starts not strictly ascending */
@@ -36,12 +37,12 @@ enum cugbejin_refusal {
     CUGBEJIN_SHIFTED_BASE = 6,       /* dereferencing shifted registers */
     CUGBEJIN_OFFSET_BY_ITSELF = 7,   /* register offset by itself */
     CUGBEJIN_PC_INTO_PC = 8,         /* PC read into PC */
-    CUGBEJIN_BRANCH_OUTSIDE = 9,     /* branch outside of the program */
+    CUGBEJIN_BRANCH_OUTSIDE = 9,     /* branch to outside 0x01FF8000 to 0x02FFFFFF */
     CUGBEJIN_POOL_OUTSIDE = 10,      /* pool word not wholly in the code */
-    CUGBEJIN_UNDEFINED_REGISTER = 11, /* undefined register used, where that is checked */
-    CUGBEJIN_TABLE_OUTSIDE = 12,     /* a table's size, end or address outside 32 bits */
-    CUGBEJIN_LIST_FULL = 13,         /* no place left in a list */
-    CUGBEJIN_NO_EPILOGUE = 14        /* code ran out, or the function ends past the module */
+    CUGBEJIN_UNDEFINED_REGISTER = 11, /* a register used before it has a value, where that is checked */
+    CUGBEJIN_TABLE_OUTSIDE = 12,     /* a table's size or end above 0xFFFFFFFF, or an inline table's address below 0 */
+    CUGBEJIN_LIST_FULL = 13,         /* a new entry where its list is full */
+    CUGBEJIN_NO_EPILOGUE = 14        /* no return before the code's end, or the function's end above the module's */
 };
 
 /* Walks one ARM function. Returns 0 where it is accepted, else the refusal's number, and fills *answer.

@@ -1,5 +1,5 @@
 //! One function's walk, from an accepted start to its record or a refusal: a safe call of the proved `cugbejin_run`.
-//! Every input gets an answer; `cugbejin.h` has the refusals.
+//! Every input gets an answer; `cugbejin.h` and docs/REFUSALS.md have the refusals.
 
 /// The host's choices for a walk.
 #[derive(Clone, Copy, Debug)]
