@@ -42,7 +42,7 @@ enum cugbejin_refusal {
     CUGBEJIN_UNDEFINED_REGISTER = 11, /* a register used before it has a value, where that is checked */
     CUGBEJIN_TABLE_OUTSIDE = 12,     /* a table's size or end above 0xFFFFFFFF, or an inline table's address below 0 */
     CUGBEJIN_LIST_FULL = 13,         /* a new entry where its list is full */
-    CUGBEJIN_NO_EPILOGUE = 14        /* no return before the code's end, or the function's end above the module's */
+    CUGBEJIN_NO_EPILOGUE = 14        /* code ran out before the function ended, or its end is above the module's */
 };
 
 /* Walks one ARM function. Returns 0 where it is accepted, else the refusal's number, and fills *answer.
