@@ -1,6 +1,6 @@
 -- What a step inserts, place by place in the source's order. Each class of instructions inserts in one place only.
 use Prim.Native.Nat.{ℕ, _+_}
-use mathlib.Core.Bool.{Bool}
+use mathlib.Core.Bool.{Bool, true, false}
 use lib.Dec.{eqb, ltb, leb}
 use Rattle.analysis.specs.Pattern.{pick}
 use Rattle.predicates.specs.declared.Callee.{Callee}
@@ -27,6 +27,15 @@ first (Mark a) e = Mark a
 first (JumpTable a s) e = JumpTable a s
 first (InlineTable a s) e = InlineTable a s
 first (Call a w d m) e = Call a w d m
+
+abbrev pub isNothing : Edit → Bool
+isNothing Nothing = true
+isNothing (Label a) = false
+isNothing (Pool a v) = false
+isNothing (Mark a) = false
+isNothing (JumpTable a s) = false
+isNothing (InlineTable a s) = false
+isNothing (Call a w d m) = false
 
 -- Bx marks the pool word that its register came from
 unfoldable pub markOf : Bool → ℕ → Edit

@@ -353,19 +353,29 @@ fn edit_before(p: Progress, s: Shape, flow: Flow, table: Edit, mark: Edit) -> Ed
     requires { ⌜ p .address + 4 < 2 ^ 32 ⌝ }
     ensures { λ r. ⌜ r ≡ editBefore p s flow table mark ⌝ }
 {
-    edits::first(
-        edits::first(table, mark),
-        edits::branch_edit(flow, p.start, p.address, s),
-    )
+    if edits::is_nothing(table) {
+        if edits::is_nothing(mark) {
+            return edits::branch_edit(flow, p.start, p.address, s);
+        }
+        return mark;
+    }
+    table
 }
 
 fn edit_after(address: u32, s: Shape, value: u32, before: Edit, inline: Edit) -> Edit
     ensures { λ r. ⌜ r ≡ editAfter address s value before inline ⌝ }
 {
-    edits::first(
-        edits::first(edits::first(before, edits::pool_edit(s, value)), inline),
-        edits::call_edit(address, s),
-    )
+    if edits::is_nothing(before) {
+        let pool = edits::pool_edit(s, value);
+        if edits::is_nothing(pool) {
+            if edits::is_nothing(inline) {
+                return edits::call_edit(address, s);
+            }
+            return inline;
+        }
+        return pool;
+    }
+    before
 }
 
 // The decision at an instruction.

@@ -5,38 +5,37 @@ use crate::decide::Flow;
 use predicates::Callee;
 ghost use mathlib.Core.Path.{_≡_};
 ghost use Prim.Native.Nat.{_+_, _<_, _^_};
-ghost use Rattle.walk.specs.Edits.{first, markOf, callTo, tailCall, branchEdit, poolEdit, callEdit};
+ghost use Rattle.walk.specs.Edits.{isNothing, markOf, callTo, tailCall, branchEdit, poolEdit, callEdit};
 
 pub const ARM: u32 = 0;
 
 pub const THUMB: u32 = 1;
 
-// The earlier of two.
-pub fn first(edit: Edit, other: Edit) -> Edit
-    ensures { λ r. ⌜ r ≡ first edit other ⌝ }
+pub fn is_nothing(edit: Edit) -> bool
+    ensures { λ r. ⌜ r ≡ isNothing edit ⌝ }
 {
     match edit {
-        Edit::Nothing => other,
-        Edit::Label(_) => edit,
+        Edit::Nothing => true,
+        Edit::Label(_) => false,
         Edit::Pool {
             address: _,
             value: _,
-        } => edit,
-        Edit::Mark(_) => edit,
+        } => false,
+        Edit::Mark(_) => false,
         Edit::JumpTable {
             address: _,
             size: _,
-        } => edit,
+        } => false,
         Edit::InlineTable {
             address: _,
             size: _,
-        } => edit,
+        } => false,
         Edit::Call {
             address: _,
             word: _,
             destination: _,
             mode: _,
-        } => edit,
+        } => false,
     }
 }
 

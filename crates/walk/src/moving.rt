@@ -78,7 +78,6 @@ fn conditional_after(o: Options, p: Progress, f: Found, v: Seen, s: Shape, signs
     ensures { λ r. ⌜ r ≡ conditionalAfter o p f v s signs ⌝ }
 {
     let block = decide::in_conditional_block(p, signs.table_end);
-    let flow = decide::flow_at(o, p, f, v, s, block, signs.is_function_branch);
     let is_long_branch = decide::is_long_branch_destination(
         p.address + 4,
         p.last_pool_address,
@@ -87,9 +86,13 @@ fn conditional_after(o: Options, p: Progress, f: Found, v: Seen, s: Shape, signs
     );
     let table = larger(p.last_conditional_destination, signs.table_end);
     let raised = raised_by_long_branch(table, p.address + 4, block, s.is_return, is_long_branch);
-    let table_end = table_end_after(signs.table_end, p.jump_table_end_address);
-    let raises = raises_label(block, s.is_conditional, p.address < table_end);
-    raised_by_label(flow, raises, raised, s.target)
+    if s.is_branch {
+        let flow = decide::flow_at(o, p, f, v, s, block, signs.is_function_branch);
+        let table_end = table_end_after(signs.table_end, p.jump_table_end_address);
+        let raises = raises_label(block, s.is_conditional, p.address < table_end);
+        return raised_by_label(flow, raises, raised, s.target);
+    }
+    raised
 }
 
 // last_pool_address
