@@ -5,7 +5,7 @@ use mathlib.Core.Bool.{not}
 use mathlib.Core.List.{List, [], _∷_}
 use lib.Dec.{eqb}
 use Rattle.answers.specs.Answers.{numberOf, addressOf, registerOf}
-use Rattle.apply.specs.Apply.{Lists, noCounts}
+use Rattle.apply.specs.Apply.{Lists}
 use Rattle.functions.specs.Calls.{Run}
 use Rattle.lists.specs.Place.{pick}
 use Rattle.walk.specs.declared.Answer.{Answer}
@@ -52,13 +52,3 @@ pub record Told (number : ℕ) (answer : List ℕ) (lists : Lists) (run : Run) :
   pub returns : number ≡ numberOf (run .answer)
   pub tells : answer ≡ answerNumbers run
   pub holds : lists ≡ run .lists
-
--- what a whole walk comes to: a record; or a refusal, which has a number and leaves no entries
-pub record Refusing (number : ℕ) (n : Counts) : Type 0 where
-  pub numbered : number ≡ 0 → ⊥
-  pub none : n ≡ noCounts
-
-abbrev pub Ended : Answer → Counts → Type 0
-Ended Going n = ⊥
-Ended (Accepted r) n = Unit {0}
-Ended (Refused number address register) n = Refusing number n

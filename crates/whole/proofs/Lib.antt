@@ -1,3 +1,4 @@
 -- What the proofs of this crate share.
 pub mod OnLaws
 pub mod WholeLaws
+pub mod EndedLaws

@@ -122,7 +122,7 @@ unfolding settled
 finished-settled s off = rw (finish-ended (s .walk) off)
 
 module _ (o : Options) (start : ℕ) (code starts : List ℕ) (n : Counts) (l : Lists) where
-  abbrev opened : Run
+  abbrev pub opened : Run
   opened = begin o start (length code) starts n l
 
   abbrev fresh : Run
@@ -144,12 +144,27 @@ module _ (o : Options) (start : ℕ) (code starts : List ℕ) (n : Counts) (l : 
   unfolding begin
   opened-fresh e = rw (passed-begin e)
 
-  abbrev first : State
+  abbrev pub first : State
   first = record { walk = begun start noCounts; lists = allZero l }
 
-  first-going : isGoing (first .walk .result) ≡ true
+  pub first-going : isGoing (first .walk .result) ≡ true
   unfolding begun
   first-going = refl
+
+  module _ (on : isGoing (opened .answer) ≡ true) where
+    pub first-fit : Passed o (first .walk) code starts (first .lists)
+    first-fit = begun-passed o start code starts l (passed-begin on)
+
+    pub run-whole : run o code starts start n l ≡ settled (walkedOn o code starts (suc (length code)) first)
+    unfolding run
+    run-whole =
+        ap (onFrom o code starts) (opened-fresh on)
+        ∙ steps-walk o code starts (suc (length code)) first Going first-going first-fit
+        ∙ finished-settled (walkedOn o code starts (suc (length code)) first) (has-ended o code starts first first-going first-fit)
+
+  pub run-begin : isGoing (opened .answer) ≡ false → run o code starts start n l ≡ opened
+  unfolding run
+  run-begin off = rw off
 
   module _ (b : Stepped) (m : Lists) (opens : Called b m opened) where
     module _ (going : isGoing (b .answer) ≡ true) where
@@ -163,27 +178,15 @@ module _ (o : Options) (start : ℕ) (code starts : List ℕ) (n : Counts) (l : 
           let k : m ≡ allZero l = opens .holds ∙ ap (λ (r : Run). r .lists) f in
           rw (w, k)
 
-      fit : Passed o (first .walk) code starts (first .lists)
-      fit = begun-passed o start code starts l (passed-begin opened-going)
-
       pub run-number : numberAt o (b .walk) code starts m ≡ 0
       run-number =
-          ap (λ (s : State). numberAt o (s .walk) code starts (s .lists)) at-first ∙ passed-number o (first .walk) code starts (first .lists) fit
-
-      whole : run o code starts start n l ≡ settled (walkedOn o code starts (suc (length code)) first)
-      unfolding run
-      whole =
-          ap (onFrom o code starts) (opened-fresh opened-going)
-          ∙ steps-walk o code starts (suc (length code)) first Going first-going fit
-          ∙ finished-settled (walkedOn o code starts (suc (length code)) first) (has-ended o code starts first first-going fit)
+          ap (λ (s : State). numberAt o (s .walk) code starts (s .lists)) at-first
+          ∙ passed-number o (first .walk) code starts (first .lists) (first-fit opened-going)
 
       pub run-on : (r : Stepped) (x : Lists) → Called r x (settled (walkedOn o code starts (suc (length code)) (record { walk = b .walk; lists = m }))) → Called r x (run o code starts start n l)
       run-on r x k =
-          subst⁻¹ (Called r x) whole
+          subst⁻¹ (Called r x) (run-whole opened-going)
           (subst (λ (s : State). Called r x (settled (walkedOn o code starts (suc (length code)) s))) at-first k)
 
     pub run-refused : isGoing (b .answer) ≡ false → Called b m (run o code starts start n l)
-    unfolding run
-    run-refused off =
-        let stops : isGoing (opened .answer) ≡ false = ap isGoing (sym (opens .answers)) ∙ off in
-        rw stops opens
+    run-refused off = subst⁻¹ (Called b m) (run-begin (ap isGoing (sym (opens .answers)) ∙ off)) opens
