@@ -14,40 +14,40 @@ use Rattle.walk.specs.declared.Counts.{Counts}
 use Rattle.whole.specs.Whole.{run}
 use Rattle.words.specs.Answer.{Answered}
 use Rattle.words.specs.declared.Answer as words
-use Rattle.finder.specs.declared.Found.{Found}
+use Rattle.finder.specs.declared.Outcome.{Outcome}
 
--- an answer, the lists after it and their counts
-pub record Outcome : Type 0 where
+-- what is listed: an answer, the lists after it and their counts
+pub record Listing : Type 0 where
   pub answer : Answer
   pub lists : Lists
   pub counts : Counts
 
-abbrev pub outcomeOf : Run → Outcome
-outcomeOf r = record { answer = r .answer; lists = r .lists; counts = r .walk .counts }
+abbrev pub listingOf : Run → Listing
+listingOf r = record { answer = r .answer; lists = r .lists; counts = r .walk .counts }
 
 -- the whole walk, with no existing starts and no entries yet
-unfoldable pub foundBy : Request → List ℕ → Lists → Outcome
-foundBy r code l = outcomeOf (run (r .options) code [] (r .start) noCounts l)
+unfoldable pub foundBy : Request → List ℕ → Lists → Listing
+foundBy r code l = listingOf (run (r .options) code [] (r .start) noCounts l)
 
 -- what is no request is refused as 16, and no list changes
-unfoldable pub foundIn : Parsed → List ℕ → Lists → Outcome
+unfoldable pub foundIn : Parsed → List ℕ → Lists → Listing
 foundIn (Asked r) input l = foundBy r (codeOf input) l
 foundIn Refused input l = record { answer = refused 16; lists = l; counts = noCounts }
 
-unfoldable pub found : List ℕ → Lists → Outcome
+unfoldable pub found : List ℕ → Lists → Listing
 found input l = foundIn (parsed input) input l
 
 -- these were found
-pub record Finds (f : Found) (lists : Lists) (o : Outcome) : Type 0 where
-  pub answers : f .answer ≡ o .answer
-  pub counted : f .counts ≡ o .counts
-  pub holds : lists ≡ o .lists
+pub record Finds (f : Outcome) (lists : Lists) (g : Listing) : Type 0 where
+  pub answers : f .answer ≡ g .answer
+  pub counted : f .counts ≡ g .counts
+  pub holds : lists ≡ g .lists
 
-abbrev pub textBy : Outcome → List ℕ
-textBy o = textOf (o .answer) (o .lists) (o .counts)
+abbrev pub textBy : Listing → List ℕ
+textBy g = textOf (g .answer) (g .lists) (g .counts)
 
-abbrev pub roomBy : Outcome → ℕ
-roomBy o = roomFor (o .lists) (o .counts)
+abbrev pub roomBy : Listing → ℕ
+roomBy g = roomFor (g .lists) (g .counts)
 
 -- the text in the buffer, and what every place of every list holds
 pub record Listed (input : List ℕ) (before after : Lists) (out : List ℕ) (r : words.Answer) (left : List ℕ) : Type 0 where

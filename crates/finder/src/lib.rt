@@ -4,26 +4,13 @@ use request::Request;
 use walk::Answer;
 use walk::Counts;
 ghost use mathlib.Core.Path.{_≡_};
-ghost use Rattle.apply.specs.Apply.{lists, noCounts};
-ghost use Rattle.words.specs.Answer.{Answered};
+ghost use Rattle.apply.specs.Apply.{lists};
 ghost use Rattle.finder.specs.Finder.{Finds, foundBy, found, Listed};
 
 // The answer to a request; how many entries of each list go with it.
-pub struct Found {
+pub struct Outcome {
     pub answer: Answer,
     pub counts: Counts,
-}
-
-fn no_counts() -> Counts
-    ensures { λ r. ⌜ r ≡ noCounts ⌝ }
-{
-    Counts {
-        labels: 0,
-        pools: 0,
-        jump_tables: 0,
-        inline_tables: 0,
-        calls: 0,
-    }
 }
 
 // The whole walk of a request. It has no existing starts.
@@ -42,7 +29,7 @@ fn walk_whole(
     call_words: &mut [u32],
     call_destinations: &mut [u32],
     call_modes: &mut [u32],
-) -> Found
+) -> Outcome
     ensures { λ f. ⌜ Finds f (lists (now (labels .exit)) (now (pools .exit)) (now («pool_values» .exit)) (now («pool_marks» .exit)) (now («jump_tables» .exit)) (now («jump_sizes» .exit)) (now («inline_tables» .exit)) (now («inline_sizes» .exit)) (now (calls .exit)) (now («call_words» .exit)) (now («call_destinations» .exit)) (now («call_modes» .exit))) (foundBy r (now (code .entry)) (lists (now (labels .entry)) (now (pools .entry)) (now («pool_values» .entry)) (now («pool_marks» .entry)) (now («jump_tables» .entry)) (now («jump_sizes» .entry)) (now («inline_tables» .entry)) (now («inline_sizes» .entry)) (now (calls .entry)) (now («call_words» .entry)) (now («call_destinations» .entry)) (now («call_modes» .entry)))) ⌝ }
 {
     let starts: [u32; 0] = [];
@@ -64,12 +51,12 @@ fn walk_whole(
         call_words,
         call_destinations,
         call_modes,
-        no_counts(),
+        apply::no_counts(),
     );
     let answer = run.answer;
     let walk = run.walk;
     let counts = walk.counts;
-    Found { answer, counts }
+    Outcome { answer, counts }
 }
 
 // What an input asks for. One that is no request changes no list.
@@ -87,7 +74,7 @@ fn find(
     call_words: &mut [u32],
     call_destinations: &mut [u32],
     call_modes: &mut [u32],
-) -> Found
+) -> Outcome
     ensures { λ f. ⌜ Finds f (lists (now (labels .exit)) (now (pools .exit)) (now («pool_values» .exit)) (now («pool_marks» .exit)) (now («jump_tables» .exit)) (now («jump_sizes» .exit)) (now («inline_tables» .exit)) (now («inline_sizes» .exit)) (now (calls .exit)) (now («call_words» .exit)) (now («call_destinations» .exit)) (now («call_modes» .exit))) (found (now (input .entry)) (lists (now (labels .entry)) (now (pools .entry)) (now («pool_values» .entry)) (now («pool_marks» .entry)) (now («jump_tables» .entry)) (now («jump_sizes» .entry)) (now («inline_tables» .entry)) (now («inline_sizes» .entry)) (now (calls .entry)) (now («call_words» .entry)) (now («call_destinations» .entry)) (now («call_modes» .entry)))) ⌝ }
 {
     match request::parse(input) {
@@ -107,13 +94,13 @@ fn find(
             call_destinations,
             call_modes,
         ),
-        Parsed::Refused => Found {
+        Parsed::Refused => Outcome {
             answer: Answer::Refused {
                 number: 16,
                 address: 0,
                 register: 0,
             },
-            counts: no_counts(),
+            counts: apply::no_counts(),
         },
     }
 }
