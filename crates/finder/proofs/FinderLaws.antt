@@ -5,6 +5,7 @@ use mathlib.Core.Bool.{Bool, true, false}
 use mathlib.Core.List.{List, [], _++_}
 use Prim.Native.Nat.{ℕ, _+_, _*_, _≤_}
 use native.Mathlib.Omega.{arith}
+use borrow.Author.Tests.{leb-false}
 use lib.Dec.{leb}
 use lib.ListN.{length, length-append}
 use Rattle.apply.specs.Apply.{Lists, noCounts}
@@ -136,3 +137,23 @@ pub room-most : (l : Lists) (n : Counts)
     → roomFor l n ≤ 45 + 40 * (length (l .labels) + length (l .pools) + length (l .jumps) + length (l .inlines) + length (l .calls))
 unfolding roomFor roomWith
 room-most l n = let f = shown-fits l n in omega (arith, f .labels, f .pools, f .jumps, f .inlines, f .calls)
+
+-- so NoRoom never comes for one
+pub never-short : {input out left : List ℕ} {before after : Lists} {r : words.Answer}
+    → Listed input before after out r left
+    → 45 + 40 * (length (after .labels) + length (after .pools) + length (after .jumps) + length (after .inlines) + length (after .calls)) ≤ length out
+    → r ≡ NoRoom → ⊥
+never-short {input} {out} {before = before} {after = after} {r = r} h most = go (leb room (length out)) refl (h .text .answer)
+  where
+    room : ℕ
+    room = roomBy (found input before)
+
+    fits : room ≤ length out
+    fits =
+        let needed = room-most (found input before .lists) (found input before .counts) in
+        let enough = rw (h .holds) at most in
+        omega arith
+
+    go : (t : Bool) → leb room (length out) ≡ t → r ≡ pick t (Text (length (textBy (found input before)))) NoRoom → r ≡ NoRoom → ⊥
+    go true e p q = let z : _≡_ {A = ℕ} 0 1 = cc in omega arith
+    go false e p q = let past = leb-false room (length out) e in omega (arith, fits, past)

@@ -5,6 +5,7 @@ use walk::Answer;
 use walk::Counts;
 ghost use mathlib.Core.Path.{_≡_};
 ghost use Rattle.apply.specs.Apply.{lists};
+ghost use Rattle.words.specs.declared.Answer.the-variants.{Text, NoRoom};
 ghost use Rattle.finder.specs.Finder.{Finds, foundBy, found, Listed};
 
 // The answer to a request; how many entries of each list go with it.
@@ -158,4 +159,15 @@ pub fn list_function(
         call_modes,
         counts,
     )
+}
+
+// Of an answer that is a text. A caller shows that its buffer had room.
+pub fn text_length(answer: words::Answer) -> usize
+    requires { ⌜ (answer ≡ NoRoom → ⊥) ⌝ }
+    ensures { λ r. ⌜ answer ≡ Text r ⌝ }
+{
+    match answer {
+        words::Answer::Text(length) => length,
+        words::Answer::NoRoom => 0,
+    }
 }

@@ -1,6 +1,4 @@
 // Reads a request from standard input, and writes the listing of the function that starts there.
-use words::Answer;
-
 fn main() {
     // One byte more than is taken, so that a longer input is seen as too long.
     let mut input = [0u8; 16411];
@@ -35,7 +33,6 @@ fn main() {
         &mut call_modes[..],
         &mut out,
     );
-    if let Answer::Text(length) = answer {
-        io::write_all(1, &out[..length]);
-    }
+    let length = finder::text_length(answer);
+    io::write_all(1, &out[..length]);
 }

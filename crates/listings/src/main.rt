@@ -1,5 +1,4 @@
 // Reads inputs of `listfn` one after another, each behind a count of its bytes (four, big-endian), and writes what `listfn` writes for each.
-use words::Answer;
 ghost use Prim.Native.Nat.{_≤_};
 ghost use lib.ListN.{length};
 
@@ -35,9 +34,8 @@ fn list(input: &[u8]) {
         &mut call_modes[..],
         &mut out,
     );
-    if let Answer::Text(length) = answer {
-        io::write_all(1, &out[..length]);
-    }
+    let length = finder::text_length(answer);
+    io::write_all(1, &out[..length]);
 }
 
 // The next bytes, as many as the count says or are left.

@@ -1,9 +1,10 @@
--- `main` is safe: the text that it writes lies within its buffer.
+-- `main` is safe: its buffer has room for every text, and what it writes lies within it.
 -- Assumes nothing.
 use mathlib.Core.Path.{sym}
+use native.Mathlib.Omega.{arith}
 use lib.Seq.{length-take-le}
 use borrow.Author.Needs.{needs}
-use Rattle.finder.proofs.FinderLaws.{listed-within}
+use Rattle.finder.proofs.FinderLaws.{listed-within, never-short}
 use Rattle.listfn.proofs.main.Statement.{statement}
 use Rattle.listfn.proofs.main.Tie as tie
 
@@ -61,26 +62,20 @@ slice-aggregate-list-function-14 c = search needs
 list-function-requires : tie.Need-list-function-requires
 list-function-requires c κs = search needs
 
-enum-known-answer : tie.Need-enum-known-answer
-enum-known-answer c = search needs
+text-length-requires : tie.Need-text-length-requires
+text-length-requires c κs = never-short (c .before .before .before .before .before .before .before .before .before .before .before .before .before .list-function .ensures) (omega (arith, c .before .before .before .before .before .before .before .before .before .before .before .before .before .list-function .kept))
 
 array-share-prefix-out : tie.Need-array-share-prefix-out
-array-share-prefix-out c = listed-within (c .before .before .before .before .before .before .before .before .before .before .before .before .before .before .before .before .list-function .ensures) (c .before .answer .given .1)
+array-share-prefix-out c = listed-within (c .before .before .before .before .before .before .before .before .before .before .before .before .before .before .list-function .ensures) (c .text-length .ensures)
 
 slice-aggregate-write-all : tie.Need-slice-aggregate-write-all
-slice-aggregate-write-all c = sym (length-take-le _ _ (listed-within (c .before .before .before .before .before .before .before .before .before .before .before .before .before .before .before .before .before .list-function .ensures) (c .before .before .answer .given .1)))
+slice-aggregate-write-all c = sym (length-take-le _ _ (listed-within (c .before .before .before .before .before .before .before .before .before .before .before .before .before .before .before .list-function .ensures) (c .before .text-length .ensures)))
 
 write-all-requires : tie.Need-write-all-requires
 write-all-requires c κs = search needs
 
-enum-told : tie.Need-enum-told
-enum-told c = search needs
-
 returns : tie.Need-returns
 returns c = search needs
-
-returns-2 : tie.Need-returns-2
-returns-2 c = search needs
 
 pub main-spec : {M : Type 1} → statement M
 main-spec =
@@ -104,10 +99,8 @@ main-spec =
     slice-aggregate-list-function-13
     slice-aggregate-list-function-14
     list-function-requires
-    enum-known-answer
+    text-length-requires
     array-share-prefix-out
     slice-aggregate-write-all
     write-all-requires
-    enum-told
-    returns
-    returns-2)
+    returns)
