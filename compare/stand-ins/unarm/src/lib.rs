@@ -10,7 +10,7 @@ pub mod sets;
 pub use class::Class;
 pub use decode::{class_of, parse_arm};
 pub use parser::{ParseEndian, ParseMode, Parser, parse_thumb};
-pub use registers::{Reg, RegList};
+pub use registers::{Reg, RegList, Registers};
 
 /// The condition field. `Nv` is 1111, which holds unconditional instructions.
 #[derive(Clone, Copy, PartialEq, Eq, Debug)]
@@ -174,6 +174,24 @@ pub enum DefUseArgument {
     Unnamed,
 }
 
+/// What an instruction reads or writes. Nothing is put on the heap, so that the benchmark times the original and not its stand-in.
+#[derive(Clone, Debug)]
+pub struct Arguments {
+    list: Option<RegList>,
+    registers: Registers,
+}
+
+impl Iterator for Arguments {
+    type Item = DefUseArgument;
+
+    fn next(&mut self) -> Option<DefUseArgument> {
+        match self.list.take() {
+            Some(list) => Some(DefUseArgument::RegList(list)),
+            None => self.registers.next().map(DefUseArgument::Reg),
+        }
+    }
+}
+
 impl Ins {
     /// A condition field other than 1110 and 1111.
     pub fn is_conditional(&self) -> bool {
@@ -181,11 +199,11 @@ impl Ins {
     }
 
     /// In ascending order, so that the first one that fails a test is the lowest.
-    pub fn uses(&self) -> Vec<DefUseArgument> {
+    pub fn uses(&self) -> Arguments {
         self.arguments(self.used(), matches!(self, Self::Stm { .. } | Self::Push { .. }))
     }
 
-    pub fn defs(&self) -> Vec<DefUseArgument> {
+    pub fn defs(&self) -> Arguments {
         self.arguments(self.defined(), matches!(self, Self::Ldm { .. } | Self::Pop { .. }))
     }
 
@@ -194,11 +212,11 @@ impl Ins {
     }
 
     /// Block transfers give one list, all others register by register.
-    fn arguments(&self, set: RegList, block: bool) -> Vec<DefUseArgument> {
-        if block {
-            return vec![DefUseArgument::RegList(set)];
+    fn arguments(&self, set: RegList, block: bool) -> Arguments {
+        match block {
+            true => Arguments { list: Some(set), registers: RegList(0).iter() },
+            false => Arguments { list: None, registers: set.iter() },
         }
-        set.iter().map(DefUseArgument::Reg).collect()
     }
 
     fn cond(&self) -> Option<Cond> {

@@ -52,10 +52,22 @@ impl RegList {
         self.0 & RegList::from(reg).0 != 0
     }
 
-    /// Ascending.
-    pub fn iter(&self) -> impl Iterator<Item = Reg> + use<> {
-        let list = *self;
-        REGS.into_iter().filter(move |&reg| list.contains(reg))
+    pub fn iter(&self) -> Registers {
+        Registers(self.0)
+    }
+}
+
+/// The registers of a set, ascending.
+#[derive(Clone, Debug)]
+pub struct Registers(u16);
+
+impl Iterator for Registers {
+    type Item = Reg;
+
+    fn next(&mut self) -> Option<Reg> {
+        let reg = Reg::from_number(self.0.trailing_zeros())?;
+        self.0 &= self.0 - 1;
+        Some(reg)
     }
 }
 
