@@ -1,7 +1,7 @@
 -- function_branch.rs: `handle` and `is_function_branch`, case by case in the source's order.
 use mathlib.Core.Bool.{Bool, true, false}
 use lib.Dec.{eqb}
-use Rattle.arm.specs.declared.Class.the-variants.{Eor, Mov, Ldr, Add, B}
+use Rattle.classes.specs.declared.Class.the-variants.{Eor, Mov, Ldr, Add, B}
 use Rattle.arm.specs.declared.Ins.{Ins}
 use Rattle.analysis.specs.declared.function_branch.FunctionBranchState.{FunctionBranchState}
 use Rattle.analysis.specs.declared.function_branch.FunctionBranchState.the-variants.{Start, Eors, MovgePcLr, MovFromSp, LdrIpPc, AddR0Ip, FunctionBranch}

@@ -2,9 +2,9 @@
 use Prim.Native.Nat.{ℕ, _/_, _%_, _^_}
 use mathlib.Core.Bool.{Bool, true, false}
 use lib.Dec.{eqb}
-use Rattle.arm.specs.declared.Class.the-variants.{Illegal as ILLEGAL, Lsl, Lsr, Asr, Ror, Stm, Str, Ldm}
+use Rattle.classes.specs.declared.Class.the-variants.{Illegal as ILLEGAL, Lsl, Lsr, Asr, Ror, Stm, Str, Ldm}
 use Rattle.arm.specs.declared.Ins.{Ins}
-use Rattle.arm.specs.Class.{is}
+use Rattle.classes.specs.Class.{is}
 use Rattle.analysis.specs.declared.illegal_code.IllegalCodeState.{IllegalCodeState}
 use Rattle.analysis.specs.declared.illegal_code.IllegalCodeState.the-variants.{Start, ShiftedRegisterValue, Illegal}
 use Rattle.analysis.specs.Pattern.{pick, both, byItself, pc}

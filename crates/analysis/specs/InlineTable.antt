@@ -3,10 +3,10 @@
 use Prim.Native.Nat.{ℕ, _+_, _-_}
 use mathlib.Core.Bool.{Bool, true, false}
 use lib.Dec.{eqb, ltb}
-use Rattle.arm.specs.declared.Class.the-variants.{Sub, Ldrb}
+use Rattle.classes.specs.declared.Class.the-variants.{Sub, Ldrb}
 use Rattle.arm.specs.declared.Ins.{Ins}
-use Rattle.arm.specs.declared.Op2.{Op2}
-use Rattle.arm.specs.declared.Op2.the-variants.{Imm, ShiftImm, ShiftReg}
+use Rattle.classes.specs.declared.Op2.{Op2}
+use Rattle.classes.specs.declared.Op2.the-variants.{Imm, ShiftImm, ShiftReg}
 use Rattle.analysis.specs.declared.inline_table.InlineTableState.{InlineTableState}
 use Rattle.analysis.specs.declared.inline_table.InlineTableState.the-variants.{Start, SubPc, ValidTable}
 use Rattle.analysis.specs.declared.inline_table.InlineTableAnswer.{InlineTableAnswer}

@@ -4,4 +4,3 @@ pub mod IllegalCode
 pub mod FunctionBranch
 pub mod InlineTable
 pub mod JumpTable
-pub mod Refusal

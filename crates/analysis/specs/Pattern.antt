@@ -2,17 +2,17 @@
 use Prim.Native.Nat.{ℕ}
 use mathlib.Core.Bool.{Bool, true, false, Bool·beq}
 use lib.Dec.{eqb}
-use Rattle.arm.specs.declared.Class.{Class}
+use Rattle.classes.specs.declared.Class.{Class}
 use Rattle.arm.specs.declared.Ins.{Ins}
-use Rattle.arm.specs.declared.ShiftOp.{ShiftOp}
-use Rattle.arm.specs.declared.ShiftOp.the-variants.{Lsl, Lsr, Asr, Ror, Rrx}
-use Rattle.arm.specs.declared.Op2.{Op2}
-use Rattle.arm.specs.declared.Op2.the-variants.{Imm, ShiftImm, ShiftReg}
-use Rattle.arm.specs.declared.LdrStrOffset.{LdrStrOffset}
-use Rattle.arm.specs.declared.LdrStrOffset.the-variants.{Imm as Offset-Imm, Reg}
-use Rattle.arm.specs.declared.AddrLdrStr.{AddrLdrStr}
-use Rattle.arm.specs.declared.AddrLdrStr.the-variants.{Pre, Post}
-use Rattle.arm.specs.Class.{is}
+use Rattle.classes.specs.declared.ShiftOp.{ShiftOp}
+use Rattle.classes.specs.declared.ShiftOp.the-variants.{Lsl, Lsr, Asr, Ror, Rrx}
+use Rattle.classes.specs.declared.Op2.{Op2}
+use Rattle.classes.specs.declared.Op2.the-variants.{Imm, ShiftImm, ShiftReg}
+use Rattle.classes.specs.declared.LdrStrOffset.{LdrStrOffset}
+use Rattle.classes.specs.declared.LdrStrOffset.the-variants.{Imm as Offset-Imm, Reg}
+use Rattle.classes.specs.declared.AddrLdrStr.{AddrLdrStr}
+use Rattle.classes.specs.declared.AddrLdrStr.the-variants.{Pre, Post}
+use Rattle.classes.specs.Class.{is}
 
 -- the first where the test holds, else the second
 abbrev pub pick : {A : Type 0} → Bool → A → A → A

@@ -10,8 +10,8 @@ use crate::pattern::is_data;
 use crate::pattern::is_pre;
 use crate::pattern::is_register;
 use crate::pattern::is_when;
-use arm::Class;
 use arm::Ins;
+use classes::Class;
 ghost use mathlib.Core.Path.{_≡_};
 ghost use Rattle.analysis.specs.FunctionBranch.{functionBranch, atStart, movgePcLr, movFromSp, ldrIpPc, addR0Ip, afterEors, beforeBranch, afterLdr, isFunctionBranch};
 

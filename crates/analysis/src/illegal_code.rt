@@ -1,8 +1,8 @@
 // Code sequences that no program has (illegal_code.rs, the ARM arms).
 use crate::pattern::PC;
 use crate::pattern::by_itself;
-use arm::Class;
 use arm::Ins;
+use classes::Class;
 ghost use mathlib.Core.Path.{_≡_};
 ghost use Rattle.analysis.specs.IllegalCode.{illegalCode, isShift, dereferenced, offsetByItself, readsPcIntoPc, pcInList};
 

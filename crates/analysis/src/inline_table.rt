@@ -5,9 +5,9 @@ use crate::pattern::is_data;
 use crate::pattern::is_pre;
 use crate::pattern::is_when;
 use crate::pattern::shifted_right;
-use arm::Class;
 use arm::Ins;
-use arm::Op2;
+use classes::Class;
+use classes::Op2;
 ghost use mathlib.Core.Path.{_≡_};
 ghost use Rattle.analysis.specs.InlineTable.{inlineTable, subPcOf, subFrom, tableAddress, isTableLoad, tableMade, tableOf, aheadOf};
 

@@ -4,4 +4,3 @@ pub mod illegal_code;
 pub mod inline_table;
 pub mod jump_table;
 pub mod pattern;
-pub mod refusal;

@@ -1,10 +1,10 @@
 // What the machines' patterns ask of an instruction.
-use arm::AddrLdrStr;
-use arm::Class;
 use arm::Ins;
-use arm::LdrStrOffset;
-use arm::Op2;
-use arm::ShiftOp;
+use classes::AddrLdrStr;
+use classes::Class;
+use classes::LdrStrOffset;
+use classes::Op2;
+use classes::ShiftOp;
 ghost use mathlib.Core.Path.{_≡_};
 ghost use Rattle.analysis.specs.Pattern.{isWhen, isData, isRegister, isLsl, isLsr, isScaled, isPre, offsetBy, byItself, isRight, shiftedRight};
 

@@ -1,7 +1,2 @@
-pub mod Choice
-pub mod ImmediateLaws
+-- The decoder beside the manual.
 pub mod ManualLaws
-pub mod Numbers
-pub mod OffsetLaws
-pub mod Reduce
-pub mod Sweep

@@ -8,23 +8,23 @@ use Prim.Native.Nat.{ℕ, _/_, _%_, _<_}
 use native.Mathlib.Omega.{arith}
 use lib.Dec.{T, eqb, ltb, ltb→lt}
 use lib.ListN.{length}
-use Rattle.arm.specs.declared.Class.{Class}
-use Rattle.arm.specs.declared.Class.the-variants.{Illegal, Mov, Stm, Ldm, Push, Pop}
-use Rattle.arm.specs.declared.ShiftOp.{ShiftOp}
-use Rattle.arm.specs.declared.ShiftOp.the-variants.{Lsl, Lsr, Asr, Ror, Rrx}
-use Rattle.arm.specs.declared.Op2.{Op2}
-use Rattle.arm.specs.declared.Op2.the-variants.{Imm, ShiftImm, ShiftReg}
-use Rattle.arm.specs.Class.{classNo, is}
-use Rattle.arm.specs.Diagram
-use Rattle.arm.specs.Diagram.{Encoding, fits, fitting, firstOr, bits, view, unconditional}
-use Rattle.arm.specs.Encodings.{encodings, undefineds, encodingOn, encodingOf}
-use Rattle.arm.specs.Deciding.{viewAt}
+use Rattle.classes.specs.declared.Class.{Class}
+use Rattle.classes.specs.declared.Class.the-variants.{Illegal, Mov, Stm, Ldm, Push, Pop}
+use Rattle.classes.specs.declared.ShiftOp.{ShiftOp}
+use Rattle.classes.specs.declared.ShiftOp.the-variants.{Lsl, Lsr, Asr, Ror, Rrx}
+use Rattle.classes.specs.declared.Op2.{Op2}
+use Rattle.classes.specs.declared.Op2.the-variants.{Imm, ShiftImm, ShiftReg}
+use Rattle.classes.specs.Class.{classNo, is}
+use Rattle.encodings.specs.Diagram
+use Rattle.encodings.specs.Diagram.{Encoding, fits, fitting, firstOr, bits, view, unconditional}
+use Rattle.encodings.specs.Encodings.{encodings, undefineds, encodingOn, encodingOf}
+use Rattle.encodings.specs.Deciding.{viewAt}
 use Rattle.arm.specs.Naming.{shiftName, movName, stmName, ldmName, nameOf, classOf}
-use Rattle.arm.specs.Operands.{op2Of}
+use Rattle.modes.specs.Operands.{op2Of}
 use Rattle.arm.specs.Manual.{Fits, Undefined, OfManual, Added, Named, Left, by-diagram, by-text, by-absence}
-use Rattle.arm.proofs.Numbers.{same-number}
-use Rattle.arm.proofs.Reduce.{encodings-decided, unconditional-below}
-use Rattle.arm.proofs.Sweep.{steps, steps-fit, and, and-left, and-right, every, every-at, rest}
+use Rattle.classes.proofs.Numbers.{same-number}
+use Rattle.encodings.proofs.Reduce.{encodings-decided, unconditional-below}
+use Rattle.encodings.proofs.Sweep.{steps, steps-fit, and, and-left, and-right, every, every-at, rest}
 
 -- ---- every diagram has a column for the condition and one for each of bits 27 to 0
 

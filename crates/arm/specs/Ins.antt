@@ -3,10 +3,10 @@ use Prim.Native.Nat.{ℕ, _/_, _%_, _^_}
 use mathlib.Core.Bool.{Bool}
 use lib.Dec.{eqb, ltb}
 use Rattle.arm.specs.declared.Ins.{Ins}
-use Rattle.arm.specs.Fields.{bit, rdOf, rnOf, rmOf}
-use Rattle.arm.specs.Operands.{op2Of, addrOf, modeOf, targetOf}
-use Rattle.arm.specs.Sets.{formOf, usesOf, defsOf, flagsOf}
-use Rattle.arm.specs.Encodings.{encodingOf}
+use Rattle.classes.specs.Fields.{bit, rdOf, rnOf, rmOf}
+use Rattle.modes.specs.Operands.{op2Of, addrOf, modeOf, targetOf}
+use Rattle.regsets.specs.Sets.{formOf, usesOf, defsOf, flagsOf}
+use Rattle.encodings.specs.Encodings.{encodingOf}
 use Rattle.arm.specs.Naming.{classOf}
 
 -- a condition field other than 1110 and 1111

@@ -2,11 +2,11 @@
 use mathlib.Core.List.{List·Memᴰ}
 use mathlib.Core.Path.{_≡_}
 use Prim.Native.Nat.{ℕ, _<_}
-use Rattle.arm.specs.declared.Class.{Class}
-use Rattle.arm.specs.declared.Class.the-variants.{Illegal}
-use Rattle.arm.specs.Class.{classNo}
-use Rattle.arm.specs.Diagram.{fitting, view}
-use Rattle.arm.specs.Encodings.{encodings, undefineds}
+use Rattle.classes.specs.declared.Class.{Class}
+use Rattle.classes.specs.declared.Class.the-variants.{Illegal}
+use Rattle.classes.specs.Class.{classNo}
+use Rattle.encodings.specs.Diagram.{fitting, view}
+use Rattle.encodings.specs.Encodings.{encodings, undefineds}
 use Rattle.arm.specs.Naming.{nameOf}
 
 -- a diagram of class k fits the word

@@ -2,15 +2,15 @@
 use Prim.Native.Nat.{ℕ, _/_, _%_, _^_}
 use mathlib.Core.Bool.{true, false}
 use lib.Dec.{eqb}
-use Rattle.arm.specs.declared.Class.{Class}
-use Rattle.arm.specs.declared.Class.the-variants.{Mov, Stm, Ldm, Push, Pop, Lsl, Lsr, Asr, Ror}
-use Rattle.arm.specs.declared.ShiftOp.{ShiftOp}
-use Rattle.arm.specs.declared.ShiftOp.the-variants.{Lsl as shift-Lsl, Lsr as shift-Lsr, Asr as shift-Asr, Ror as shift-Ror, Rrx}
-use Rattle.arm.specs.declared.Op2.{Op2}
-use Rattle.arm.specs.declared.Op2.the-variants.{Imm, ShiftImm, ShiftReg}
-use Rattle.arm.specs.Class.{is}
-use Rattle.arm.specs.Encodings.{encodingOf}
-use Rattle.arm.specs.Operands.{op2Of}
+use Rattle.classes.specs.declared.Class.{Class}
+use Rattle.classes.specs.declared.Class.the-variants.{Mov, Stm, Ldm, Push, Pop, Lsl, Lsr, Asr, Ror}
+use Rattle.classes.specs.declared.ShiftOp.{ShiftOp}
+use Rattle.classes.specs.declared.ShiftOp.the-variants.{Lsl as shift-Lsl, Lsr as shift-Lsr, Asr as shift-Asr, Ror as shift-Ror, Rrx}
+use Rattle.classes.specs.declared.Op2.{Op2}
+use Rattle.classes.specs.declared.Op2.the-variants.{Imm, ShiftImm, ShiftReg}
+use Rattle.classes.specs.Class.{is}
+use Rattle.encodings.specs.Encodings.{encodingOf}
+use Rattle.modes.specs.Operands.{op2Of}
 
 -- a shift's own name; RRX has none
 unfoldable pub shiftName : ShiftOp → Class

@@ -1,8 +1,8 @@
 // Document 01's naming rules: the only place where a word gets another name than the manual's.
-use crate::Class;
-use crate::Op2;
-use crate::ShiftOp;
-use crate::operands;
+use classes::Class;
+use classes::Op2;
+use classes::ShiftOp;
+use modes::operands;
 ghost use mathlib.Core.Path.{_≡_};
 ghost use Rattle.arm.specs.Naming.{shiftName, movName, stmName, ldmName, nameOf};
 

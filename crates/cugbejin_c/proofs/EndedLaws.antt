@@ -13,9 +13,9 @@ use Rattle.lists.specs.Place.{pick}
 use Rattle.walk.specs.declared.Answer.{Answer}
 use Rattle.walk.specs.declared.Answer.the-variants.{Going, Accepted, Refused}
 use Rattle.walk.specs.declared.Options.{Options}
-use Rattle.whole.specs.Ended.{EndedBy}
+use Rattle.ended.specs.Ended.{EndedBy}
 use Rattle.whole.specs.Whole.{run}
-use Rattle.whole.proofs.EndedLaws.{ended}
+use Rattle.ended.proofs.EndedLaws.{ended}
 use Rattle.cugbejin_c.specs.Numbers.{recordOf}
 
 either-none : (b : Bool) → pick b noCounts noCounts ≡ noCounts

@@ -26,9 +26,9 @@ use Rattle.walk.specs.declared.Answer.{Answer}
 use Rattle.walk.specs.declared.Answer.the-variants.{Going, Accepted, Refused as Refused-by}
 use Rattle.walk.specs.declared.Counts.{Counts}
 use Rattle.walk.specs.declared.Walk.{Walk}
-use Rattle.whole.specs.Ended.{EndedBy}
+use Rattle.ended.specs.Ended.{EndedBy}
 use Rattle.whole.specs.Whole.{run}
-use Rattle.whole.proofs.EndedLaws.{ended}
+use Rattle.ended.proofs.EndedLaws.{ended}
 use Rattle.words.specs.Answer.{Answered}
 use Rattle.words.specs.Names.{bytes}
 use Rattle.words.specs.declared.Answer as words

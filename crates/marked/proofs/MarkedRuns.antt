@@ -39,15 +39,15 @@ use Rattle.analysis.specs.IllegalCode.{isShift, dereferenced, offsetByItself, r
 use Rattle.analysis.specs.InlineTable.{tableAddress, subFrom, subPcOf, isTableLoad, tableMade}
 use Rattle.analysis.specs.JumpTable.{checkStart, compared, isJump, found, jumpOrBranch, isZeroLimit, signedBaseline, jumpAt, validTable, jumpTable, endOf}
 use Rattle.registers.specs.Registers.{cleared as registers-cleared, forgotten, holding, sourceOf, missingFrom}
-use Rattle.arm.specs.Class.{classNo}
-use Rattle.arm.specs.Diagram.{column, columns, cond, uncond, bits, unconditional, view, fits, fitting, firstOr}
-use Rattle.arm.specs.Encodings.{encodings, undefineds, encodingOn, encodingOf}
-use Rattle.arm.specs.Immediate.{rotateRight, immediate}
+use Rattle.classes.specs.Class.{classNo}
+use Rattle.encodings.specs.Diagram.{column, columns, cond, uncond, bits, unconditional, view, fits, fitting, firstOr}
+use Rattle.encodings.specs.Encodings.{encodings, undefineds, encodingOn, encodingOf}
+use Rattle.modes.specs.Immediate.{rotateRight, immediate}
 use Rattle.arm.specs.Ins.{decodeOf}
 use Rattle.arm.specs.Naming.{shiftName, movName, stmName, ldmName, nameOf, classOf}
-use Rattle.arm.specs.Offset.{signed, modulo, branchOffset, loadOffset, destination}
-use Rattle.arm.specs.Operands.{shiftOf, zeroShiftOf, zeroAmountOf, shiftImmOf, shiftAmountOf, op2Of, offsetOf, addrOf, modeOf, extraOf, targetOf}
-use Rattle.arm.specs.Sets.{formOf, ifBit, shifterSet, offset2Set, offset3Set, writtenBackSet, indexedSet, statusSourceSet, coprocessorResultSet, usesOf, defsOf, restores, writesFlags, flagsOf}
+use Rattle.modes.specs.Offset.{signed, modulo, branchOffset, loadOffset, destination}
+use Rattle.modes.specs.Operands.{shiftOf, zeroShiftOf, zeroAmountOf, shiftImmOf, shiftAmountOf, op2Of, offsetOf, addrOf, modeOf, extraOf, targetOf}
+use Rattle.regsets.specs.Sets.{formOf, ifBit, shifterSet, offset2Set, offset3Set, writtenBackSet, indexedSet, statusSourceSet, coprocessorResultSet, usesOf, defsOf, restores, writesFlags, flagsOf}
 use Rattle.marked.specs.Marked.{Marked, run, table, bytes, optionsOf, steps, ran, begins, outcome, given, expected}
 
 -- what a run computes with

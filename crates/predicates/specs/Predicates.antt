@@ -3,19 +3,19 @@ use Prim.Native.Nat.{ℕ, _+_, _/_, _*_, _%_}
 use mathlib.Core.Bool.{Bool, true, false, not}
 use lib.Dec.{eqb, ltb, leb}
 use lib.IntN.{ℤ, pos, negsuc, _+ℤ_}
-use Rattle.arm.specs.declared.Class.the-variants.{B, Bl, Blx1, Bx, Push, Pop, Mov, Ldm, Stm, Sub, Ldr, Str, Eor, Add}
+use Rattle.classes.specs.declared.Class.the-variants.{B, Bl, Blx1, Bx, Push, Pop, Mov, Ldm, Stm, Sub, Ldr, Str, Eor, Add}
 use Rattle.arm.specs.declared.Ins.{Ins}
-use Rattle.arm.specs.declared.Op2.{Op2}
-use Rattle.arm.specs.declared.Op2.the-variants.{Imm, ShiftImm, ShiftReg}
-use Rattle.arm.specs.declared.ShiftOp.{ShiftOp}
-use Rattle.arm.specs.declared.ShiftOp.the-variants.{Lsl, Lsr, Asr, Ror, Rrx}
-use Rattle.arm.specs.declared.LdrStrOffset.{LdrStrOffset}
-use Rattle.arm.specs.declared.LdrStrOffset.the-variants.{Imm as Offset-Imm, Reg}
-use Rattle.arm.specs.declared.AddrLdrStr.{AddrLdrStr}
-use Rattle.arm.specs.declared.AddrLdrStr.the-variants.{Pre, Post}
-use Rattle.arm.specs.declared.LdmStmMode.{LdmStmMode}
-use Rattle.arm.specs.declared.LdmStmMode.the-variants.{Da, Ia, Db, Ib}
-use Rattle.arm.specs.Class.{is}
+use Rattle.classes.specs.declared.Op2.{Op2}
+use Rattle.classes.specs.declared.Op2.the-variants.{Imm, ShiftImm, ShiftReg}
+use Rattle.classes.specs.declared.ShiftOp.{ShiftOp}
+use Rattle.classes.specs.declared.ShiftOp.the-variants.{Lsl, Lsr, Asr, Ror, Rrx}
+use Rattle.classes.specs.declared.LdrStrOffset.{LdrStrOffset}
+use Rattle.classes.specs.declared.LdrStrOffset.the-variants.{Imm as Offset-Imm, Reg}
+use Rattle.classes.specs.declared.AddrLdrStr.{AddrLdrStr}
+use Rattle.classes.specs.declared.AddrLdrStr.the-variants.{Pre, Post}
+use Rattle.classes.specs.declared.LdmStmMode.{LdmStmMode}
+use Rattle.classes.specs.declared.LdmStmMode.the-variants.{Da, Ia, Db, Ib}
+use Rattle.classes.specs.Class.{is}
 use Rattle.arm.specs.Ins.{isConditional}
 use Rattle.analysis.specs.Pattern.{pick, both, isWhen, isData, isLsl, isRegister, al, sp, lr, pc}
 use Rattle.predicates.specs.declared.Previous.{Previous}

@@ -1,7 +1,7 @@
 // Reads records of a word and its address, four bytes each, big-endian, and writes for each: the word, the address, where a branch with
 // that word goes, and its immediate load or store offset as 32 bits. The offset of a word with a register offset is written as 0.
-use arm::AddrLdrStr;
-use arm::LdrStrOffset;
+use classes::AddrLdrStr;
+use classes::LdrStrOffset;
 ghost use Prim.Native.Nat.{_+_, _≤_};
 ghost use lib.ListN.{length};
 
@@ -22,7 +22,7 @@ fn wide(byte: u8) -> u32
 
 fn offset_bits(offset: LdrStrOffset) -> u32 {
     match offset {
-        LdrStrOffset::Imm(z) => arm::offset::pattern(z),
+        LdrStrOffset::Imm(z) => modes::offset::pattern(z),
         LdrStrOffset::Reg {
             rm: _,
             shift_op: _,

@@ -7,9 +7,9 @@ use native.Mathlib.Omega.{arith}
 use lib.Dec.{eqb}
 use borrow.Author.Tests.{eqb-true}
 use Rattle.analysis.specs.Pattern.{pick, both, al, pc}
-use Rattle.arm.specs.declared.Class.the-variants.{Ldr, Push}
+use Rattle.classes.specs.declared.Class.the-variants.{Ldr, Push}
 use Rattle.arm.specs.declared.Ins.{Ins}
-use Rattle.arm.specs.Class.{classNo, is}
+use Rattle.classes.specs.Class.{classNo, is}
 use Rattle.arm.specs.Ins.{isConditional}
 use Rattle.predicates.specs.declared.Previous.{Previous}
 use Rattle.predicates.specs.Predicates.{hasLr, isEntryInstruction, isBranch, isOffPc, isPoolLoad, isMovPc, isLdmPc, isPopPc, isBranchBack, isSubsPcLr, isLdrPc, isEorPc, isAddPc, isReturnAlways, isReturnAfter, isReturn}

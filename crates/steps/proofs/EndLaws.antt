@@ -11,10 +11,10 @@ use lib.Dec.{eqb, ltb, leb}
 use Rattle.analysis.specs.Pattern.{pick, both, isData, isScaled, al}
 use Rattle.analysis.specs.JumpTable.{isJump}
 use Rattle.apply.specs.Apply.{Lists, listsAfter, appliedBy, callsCounted}
-use Rattle.arm.specs.declared.Class.{Class}
-use Rattle.arm.specs.declared.Class.the-variants.{Add, B, Bx, Eor, Ldm, Ldr, Mov, Pop, Push, Sub}
+use Rattle.classes.specs.declared.Class.{Class}
+use Rattle.classes.specs.declared.Class.the-variants.{Add, B, Bx, Eor, Ldm, Ldr, Mov, Pop, Push, Sub}
 use Rattle.arm.specs.declared.Ins.{Ins}
-use Rattle.arm.specs.Class.{classNo, is}
+use Rattle.classes.specs.Class.{classNo, is}
 use Rattle.arm.specs.Ins.{isConditional}
 use Rattle.predicates.specs.declared.Previous.{Previous}
 use Rattle.predicates.specs.Predicates.{isBx, isMovPc, isLdmPc, isPopPc, isBranchBack, isSubsPcLr, isLdrPc, isEorPc, isAddPc, isReturn, isReturnAlways, isReturnAfter, isEntryInstruction, isBranch, isLslByNumber}

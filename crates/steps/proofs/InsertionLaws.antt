@@ -21,12 +21,12 @@ use Rattle.analysis.specs.declared.jump_table.TableEnd.{TableEnd}
 use Rattle.analysis.specs.declared.jump_table.TableEnd.the-variants.{At as E-At, Nothing as E-Nothing, Refused as E-Refused}
 use Rattle.analysis.specs.InlineTable.{aheadOf, tableAddress, subFrom, subPcOf, isTableLoad, inlineTable}
 use Rattle.analysis.specs.JumpTable.{jumpTable, inState, checkStart, compared, isJump, isLimit, jumpOrBranch, signedBaseline, isZeroLimit, jumpAt, validTable, tableEnd}
-use Rattle.arm.specs.declared.Class.{Class}
-use Rattle.arm.specs.declared.Class.the-variants.{Add, B, Bl, Blx1, Bx, Ldr, Ldrb, Pop, Sub}
+use Rattle.classes.specs.declared.Class.{Class}
+use Rattle.classes.specs.declared.Class.the-variants.{Add, B, Bl, Blx1, Bx, Ldr, Ldrb, Pop, Sub}
 use Rattle.arm.specs.declared.Ins.{Ins}
-use Rattle.arm.specs.declared.Op2.{Op2}
-use Rattle.arm.specs.declared.Op2.the-variants.{Imm, ShiftImm, ShiftReg}
-use Rattle.arm.specs.Class.{classNo, is}
+use Rattle.classes.specs.declared.Op2.{Op2}
+use Rattle.classes.specs.declared.Op2.the-variants.{Imm, ShiftImm, ShiftReg}
+use Rattle.classes.specs.Class.{classNo, is}
 use Rattle.predicates.specs.Predicates.{isPoolLoad, calledBy}
 use Rattle.walk.specs.declared.Edit.{Edit}
 use Rattle.walk.specs.declared.Edit.the-variants.{Nothing, Label, Pool, Mark, JumpTable as Jump-Table, InlineTable, Call}

@@ -13,20 +13,20 @@ use lib.Signed.{mag}
 use mir.Syntax.{w32}
 use mir.Val.{SFits, ofZ}
 use Rattle.analysis.specs.Pattern.{pick}
-use Rattle.arm.specs.declared.Class.{Class}
-use Rattle.arm.specs.declared.Class.the-variants.{B}
-use Rattle.arm.specs.Class.{classNo}
-use Rattle.arm.specs.Diagram
-use Rattle.arm.specs.Diagram.{Column, fixed, free, Encoding, fits, fitting, view, unconditional}
-use Rattle.arm.specs.Encodings.{encodings}
+use Rattle.classes.specs.declared.Class.{Class}
+use Rattle.classes.specs.declared.Class.the-variants.{B}
+use Rattle.classes.specs.Class.{classNo}
+use Rattle.encodings.specs.Diagram
+use Rattle.encodings.specs.Diagram.{Column, fixed, free, Encoding, fits, fitting, view, unconditional}
+use Rattle.encodings.specs.Encodings.{encodings}
 use Rattle.arm.specs.Ins.{decodeOf}
 use Rattle.arm.specs.Naming.{classOf}
-use Rattle.arm.specs.Offset.{branchOffset}
-use Rattle.arm.specs.Operands.{extraOf, targetOf}
+use Rattle.modes.specs.Offset.{branchOffset}
+use Rattle.modes.specs.Operands.{extraOf, targetOf}
 use Rattle.arm.proofs.ManualLaws.{class-named}
-use Rattle.arm.proofs.Numbers.{same-number}
-use Rattle.arm.proofs.OffsetLaws.{by-bits, branch-range}
-use Rattle.arm.proofs.Sweep.{and, and-left, and-right}
+use Rattle.classes.proofs.Numbers.{same-number}
+use Rattle.modes.proofs.OffsetLaws.{by-bits, branch-range}
+use Rattle.encodings.proofs.Sweep.{and, and-left, and-right}
 use Rattle.lists.specs.Order.{ascending}
 use Rattle.predicates.specs.Predicates.{isBranch}
 use Rattle.walk.specs.declared.AfterPools.{AfterPools}

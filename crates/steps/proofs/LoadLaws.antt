@@ -21,9 +21,9 @@ use Rattle.analysis.specs.declared.jump_table.TableEnd.{TableEnd}
 use Rattle.analysis.specs.declared.jump_table.TableEnd.the-variants.{At as E-At, Nothing as E-Nothing, Refused as E-Refused}
 use Rattle.analysis.specs.InlineTable.{inlineTable, tableOf}
 use Rattle.analysis.specs.JumpTable.{jumpTable, tableEnd}
-use Rattle.arm.specs.declared.Class.the-variants.{Ldr, Add, Bx, B}
+use Rattle.classes.specs.declared.Class.the-variants.{Ldr, Add, Bx, B}
 use Rattle.arm.specs.declared.Ins.{Ins}
-use Rattle.arm.specs.Class.{classNo}
+use Rattle.classes.specs.Class.{classNo}
 use Rattle.checks.specs.Checks.{isWhole}
 use Rattle.observe.specs.declared.Word.{Word}
 use Rattle.observe.specs.declared.Word.the-variants.{Found as W-Found, Missing}

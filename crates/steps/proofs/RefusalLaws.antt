@@ -23,10 +23,10 @@ use Rattle.analysis.specs.declared.jump_table.TableEnd.the-variants.{At as E-At
 use Rattle.analysis.specs.IllegalCode.{illegalCode, isShift, dereferenced, offsetByItself, readsPcIntoPc}
 use Rattle.analysis.specs.InlineTable.{subPcOf, isTableLoad, inlineTable}
 use Rattle.analysis.specs.JumpTable.{jumpTable, inState, checkStart, compared, isJump, isLimit, found, jumpOrBranch, signedBaseline, isZeroLimit, jumpAt, validTable, tableEnd, endOf}
-use Rattle.arm.specs.declared.Class.{Class}
-use Rattle.arm.specs.declared.Class.the-variants.{Add, Asr, B, Bx, Cmp, Illegal, Ldm, Ldr, Ldrb, Lsl, Lsr, Pop, Ror, Stm, Str, Sub}
+use Rattle.classes.specs.declared.Class.{Class}
+use Rattle.classes.specs.declared.Class.the-variants.{Add, Asr, B, Bx, Cmp, Illegal, Ldm, Ldr, Ldrb, Lsl, Lsr, Pop, Ror, Stm, Str, Sub}
 use Rattle.arm.specs.declared.Ins.{Ins}
-use Rattle.arm.specs.Class.{classNo, is}
+use Rattle.classes.specs.Class.{classNo, is}
 use Rattle.checks.specs.Checks.{isWhole, areWhole}
 use Rattle.lists.specs.Place.{held, place}
 use Rattle.lists.specs.Run.{firstGap, gapFrom}

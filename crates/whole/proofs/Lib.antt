@@ -1,4 +1,3 @@
 -- What the proofs of this crate share.
 pub mod OnLaws
 pub mod WholeLaws
-pub mod EndedLaws

@@ -14,13 +14,13 @@ use Rattle.text.specs.Hex.{pick}
 use Rattle.text.specs.Put.{put, Written}
 use Rattle.text.proofs.Hex.{hex-length}
 use Rattle.text.proofs.Put.{put-length}
-use Rattle.arm.specs.Class.{classNo}
+use Rattle.classes.specs.Class.{classNo}
 use Rattle.arm.specs.Naming.{classOf}
 use Rattle.arm.specs.Ins.{decodeOf}
-use Rattle.arm.specs.declared.Class.{Class}
-use Rattle.arm.specs.declared.Class.the-variants.{Illegal}
+use Rattle.classes.specs.declared.Class.{Class}
+use Rattle.classes.specs.declared.Class.the-variants.{Illegal}
 use Rattle.arm.specs.declared.Ins.{Ins}
-use Rattle.arm.proofs.Numbers.{classAt, tag-no, class-tag}
+use Rattle.classes.proofs.Numbers.{classAt, tag-no, class-tag}
 use Rattle.words.specs.declared.Answer.{Answer}
 use Rattle.words.specs.declared.Answer.the-variants.{Text, NoRoom}
 use Rattle.words.specs.Names.{bytes, entry, names, nameOf, nameNo, conditions, condOf}

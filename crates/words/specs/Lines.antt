@@ -6,7 +6,7 @@ use mathlib.Core.Bool.{Bool, true, false}
 use mathlib.Core.List.{List, [], _∷_, _++_}
 use lib.ListN.{getD}
 use Rattle.text.specs.Hex.{hex}
-use Rattle.arm.specs.declared.Class.{Class}
+use Rattle.classes.specs.declared.Class.{Class}
 use Rattle.arm.specs.declared.Ins.{Ins}
 use Rattle.arm.specs.Naming.{classOf}
 use Rattle.arm.specs.Ins.{decodeOf}

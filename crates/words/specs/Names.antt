@@ -4,8 +4,8 @@ use Prim.Native.Nat.{ℕ, zero, suc}
 use Prim.Native.Char.{code}
 use Prim.Native.String.{String}
 use mathlib.Core.List.{List, [], _∷_}
-use Rattle.arm.specs.declared.Class.{Class}
-use Rattle.arm.specs.Class.{classNo}
+use Rattle.classes.specs.declared.Class.{Class}
+use Rattle.classes.specs.Class.{classNo}
 
 -- the bytes of a text
 unfoldable pub bytes : String → List ℕ

@@ -2,7 +2,7 @@
 //
 // `decode_text` says what each word is, with its condition, the registers that it reads and writes
 // and whether it sets the condition flags; `class_text` says only which class it has.
-use arm::Class;
+use classes::Class;
 ghost use mathlib.Core.Path.{_≡_};
 ghost use Prim.Native.Nat.{_+_, _*_, _/_, _≤_, _<_};
 ghost use lib.ListN.{length};
@@ -112,7 +112,7 @@ fn put_head(out: &mut [u8], at: usize, word: u32, class: Class) -> usize
     ensures { λ r. ⌜ Written (now (out .entry)) at (headOf word class) r (now (out .exit)) ⌝ }
 {
     let next = text::put_hex(out, at, 8, word);
-    put_name(out, next, arm::order::number(class))
+    put_name(out, next, classes::order::number(class))
 }
 
 // A line of the class text.

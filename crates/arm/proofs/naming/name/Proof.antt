@@ -3,10 +3,10 @@ use mathlib.Core.Path.{refl}
 use mathlib.Core.Bool.{false}
 use mathlib.Core.List.{List, [], _∷_}
 use Prim.Native.Nat.{ℕ}
-use Rattle.arm.specs.declared.Class.the-variants.{Mov, Stm, Ldm}
-use Rattle.arm.specs.Class.{classNo, is}
+use Rattle.classes.specs.declared.Class.the-variants.{Mov, Stm, Ldm}
+use Rattle.classes.specs.Class.{classNo, is}
 use Rattle.arm.specs.Naming.{nameOf}
-use Rattle.arm.proofs.Numbers.{class-arm}
+use Rattle.classes.proofs.Numbers.{class-arm}
 use borrow.Author.Needs.{needs}
 use Rattle.arm.proofs.naming.name.Statement.{statement}
 use Rattle.arm.proofs.naming.name.Tie as tie

@@ -1,0 +1,2 @@
+-- What the proofs about classes share.
+pub mod Numbers

@@ -1,0 +1,2 @@
+// The manual's instruction of a word.
+pub mod encoding;

@@ -1,0 +1,2 @@
+-- The proof that every whole walk comes to it.
+pub mod EndedLaws

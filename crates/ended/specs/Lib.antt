@@ -1,0 +1,2 @@
+-- What a whole walk comes to.
+pub mod Ended

@@ -1,0 +1,2 @@
+-- What the proofs about sets share.
+pub mod Choice

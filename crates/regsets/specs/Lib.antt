@@ -1,0 +1,2 @@
+-- Register sets and flags, by operand form.
+pub mod Sets

@@ -1,0 +1,2 @@
+// The registers that an instruction reads and writes.
+pub mod sets;
