@@ -1,4 +1,4 @@
-//! Operands and names: `src/operands.rt`, `src/naming.rt` and `src/offset.rt` of `crates/arm`, into the original's shapes.
+//! Operands and names: `operands.rt` and `offset.rt` of `crates/modes/src`, `naming.rt` of `crates/arm/src`, into the original's shapes.
 use crate::class::{Class, encoding};
 use crate::{
     AddrLdrStr, AddrMiscLoad, BlxTarget, BranchTarget, Cond, Ins, LdmStmMode, LdrStrOffset, MiscLoadOffset, Op2, Op2Imm, Op2Shift, Reg,
