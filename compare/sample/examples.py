@@ -1,7 +1,8 @@
-"""Document 01's examples that the original cannot be asked: lists with few places, calls out of turn, and a state or lists that a host made up.
+"""Examples of documents 01 and 02 that the original cannot be asked, or not in a stored answer: lists with few places, calls out of turn, a state or
+lists that a host made up, and the register of 11.
 
-Each example has a request of version 3 and what the program must write. That text is written by hand from 01; where the original can say
-a part of it, it comes from the original's answer to the same code and options, and the example says so:
+Each example has a request of version 3 and what the program must write. That text is written by hand from 01, or from 02 where that is
+said; where the original can say a part of it, it comes from the original's answer to the same code and options, and the example says so:
 
     hand    every line is written by hand
     rust    the original's answer: what is added has no effect
@@ -10,7 +11,7 @@ a part of it, it comes from the original's answer to the same code and options, 
 import struct
 
 from walk import (
-    ADD, AL, BASE, EQ, HIGH, LOW, NOP, RETURN, TOP, Request, b, data, pool, shifted, sub_pc, table_load,
+    ADD, AL, BASE, EQ, HIGH, LOW, NOP, RETURN, TOP, Request, b, data, mov, pool, shifted, sub_pc, table_load,
 )
 
 # The parts of a state and the columns of the lists, as a request numbers them.
@@ -121,6 +122,11 @@ def calls_out_of_turn():
 def registers():
     yield Example('C12, check on', [0xE1A00004, RETURN], 'refused 11 02000000\nregister 04\n', check=1)
     yield Example('11: the lowest', [data(ADD, 0, 6, shifted(5)), RETURN], 'refused 11 02000000\nregister 05\n', check=1)
+    # Document 02: STR r4, [SP, #-4]! is a push of r4, which a push defines; r2 and LR, in bits 15 to 0, are no part of its list.
+    yield Example('a push of one register', [0xE52D4004, mov(0, shifted(4)), RETURN],
+                  'step 02000000 02000004\nstep 02000004 02000008\nfunction 02000000 0200000c 02000000 0200000c\n', check=1)
+    yield Example('11: after a push of another', [0xE52D4004, mov(0, shifted(5)), RETURN], 'step 02000000 02000004\nrefused 11 02000004\nregister 05\n', check=1)
+    yield Example('11: a store below SP by a register is no push', [0xE72D4004, RETURN], 'refused 11 02000000\nregister 04\n', check=1)
 
 
 def full_lists():

@@ -104,11 +104,12 @@ def end_of(listing):
 
 
 class Tally:
-    """Of the requests: the ends of those compared, how many had rich lists, and how many did not agree, with all places or with few."""
+    """Of the requests: the ends of those compared, how many had rich lists, how many were entered and left by one register, and how many did not
+    agree, with all places or with few."""
 
     def __init__(self):
         self.ends, self.few = collections.Counter(), collections.Counter()
-        self.rich = self.listed = self.left_out = self.different = 0
+        self.rich = self.by_one = self.listed = self.left_out = self.different = 0
 
     def agree(self, name, expected, given, request, places):
         if expected != given and not self.different:
@@ -122,6 +123,7 @@ class Tally:
         end, is_rich = walk.outcome(expected)
         self.ends[end] += 1
         self.rich += is_rich
+        self.by_one += walk.by_one(request, expected)
         same = self.agree('all places', expected, given, request, MOST)
         wanted = with_few(expected, request.numbers[3], places)
         if wanted is None:
@@ -150,7 +152,7 @@ def main():
             tally.add(*parts)
     compared = sum(tally.ends.values())
     print(f'{compared - tally.different} agreed, {tally.different} did not, {tally.left_out} left out')
-    print('ends:', dict(sorted(tally.ends.items(), key=str)), f'{tally.rich} accepted with rich lists')
+    print('ends:', dict(sorted(tally.ends.items(), key=str)), f'{tally.rich} accepted with rich lists, {tally.by_one} entered and left by one register')
     print('with few places:', dict(sorted(tally.few.items())), f'listed: {tally.listed}')
     sys.exit(tally.different > 0)
 

@@ -72,6 +72,22 @@ def pop(regs, cond=AL):
     return block(1, SP, regs, 1, 0, 1, cond)
 
 
+# STR Rd, [SP, #-4]! and LDR Rd, [SP], #4
+def push_one(rd, cond=AL):
+    return transfer(0, rd, SP, 4, u=0, w=1, cond=cond)
+
+
+def pop_one(rd, cond=AL):
+    return transfer(1, rd, SP, 4, p=0, cond=cond)
+
+
+def near_misses(word):
+    """Words close to a push or a pop of one register: with another offset (8, 0, 5, 0x104) or a register's (r4), another base, and one of L, W, B,
+    U and P, or P and W, the other way round."""
+    load, w, byte, u, p, by_r4 = (1 << place for place in range(20, 26))
+    return [word ^ bits for bits in (4 ^ 8, 4, 1, 0x100, by_r4, 1 << 16, 2 << 16, 4 << 16, 8 << 16, load, w, byte, u, p, p | w)]
+
+
 def branch(offset=0, cond=AL, link=0):
     return cond << 28 | 5 << 25 | link << 24 | offset & 0xFFFFFF
 
@@ -121,8 +137,10 @@ def illegal_code():
               for load, kind, amount, byte, p, u, w, cond in (
                   (0, LSL, 0, 0, 1, 1, 0, AL), (0, LSR, 0, 0, 1, 0, 1, AL), (0, ROR, 0, 0, 0, 1, 0, NE), (0, ASR, 5, 0, 0, 0, 0, AL),
                   (0, LSL, 0, 1, 1, 1, 0, AL), (0, LSL, 0, 0, 0, 1, 1, AL), (1, LSL, 0, 0, 1, 1, 0, AL))]
-    near = [transfer(0, 2, 1, 1), transfer(0, 2, 4, 4, p=0), 0xE18110B1, 0xE18100F1, 0xE1010091, block(0, PC, 0x8000), push(0x4010), pop(0x8010)]
-    words = ILLEGAL + SHIFTS + NO_SHIFTS + stores + loads + itself + near + OTHERS
+    close = [transfer(0, 2, 1, 1), transfer(0, 2, 4, 4, p=0), 0xE18110B1, 0xE18100F1, 0xE1010091, block(0, PC, 0x8000), push(0x4010), pop(0x8010)]
+    # A push of one register has no register to offset by. The last two have, and are none: by SP itself, and by r4.
+    close += [push_one(4), push_one(SP), pop_one(4), pop_one(PC), transfer(0, 4, SP, by_shift(SP), u=0, w=1), transfer(0, 4, SP, by_shift(4), u=0, w=1)]
+    words = ILLEGAL + SHIFTS + NO_SHIFTS + stores + loads + itself + close + OTHERS
     states = [(0, 0, 0, 0), (1, 4, 0, 0), (1, 1, 0, 0), (1, SP, 0, 0)] + [(2, reason, 0, 0) for reason in (5, 6, 7, 8)]
     return 1, states, words, lambda state: [0x02000000]
 
@@ -152,7 +170,7 @@ def function_branch():
                 (0, 0, shifted(12, LSR, 0), AL, 0), (0, 0, shifted(12, ROR, 0), AL, 0), (0, 0, by_register(12, LSL, 0), AL, 0),
                 (0, 0, imm(12), AL, 0))] + [data(SUB, 0, 0, shifted(12))]
     branches = [branch(5, cond) for cond in range(15)] + [branch(-3, MI, 1), branch(-3, MI)]
-    words = eors + returns + from_sp + pool + adds + branches + FLAGS + NO_FLAGS[:12] + OTHERS
+    words = eors + returns + from_sp + pool + [push_one(12), pop_one(12)] + adds + branches + FLAGS + NO_FLAGS[:12] + OTHERS
     return 2, [(tag, 0, 0, 0) for tag in range(7)], words, lambda state: [0x02000000]
 
 
@@ -171,7 +189,7 @@ def inline_table():
                  (1, 3, by_shift(2, ROR, 4), 1, 1, 1, 0, AL), (1, 3, by_shift(2, LSR, 4), 1, 0, 1, 0, AL), (1, 3, by_shift(2, LSR, 4), 1, 0, 1, 1, AL),
                  (1, 3, by_shift(2, LSR, 4), 0, 1, 1, 0, AL), (0, 3, by_shift(2, LSR, 4), 1, 1, 1, 0, AL), (1, 3, by_shift(2, LSR, 4), 1, 1, 1, 0, LS),
                  (1, 3, 0x220, 1, 1, 1, 0, AL), (1, 4, by_shift(3, LSR, 4), 1, 1, 1, 0, AL))]
-    words = subs + loads + NO_FLAGS[:4] + OTHERS[:4]
+    words = subs + loads + [push_one(3), pop_one(3)] + NO_FLAGS[:4] + OTHERS[:4]
 
     # Around the sums' ends: below 0 for each of the immediates, and the highest table that ends in 32 bits.
     def addresses(state):
@@ -197,7 +215,8 @@ def jump_table():
     jumps += [data(ADD, PC, PC, shifted(2, LSL, 2), cond) for cond in (HI, GT, LT, EQ)]
     branches = [branch(4, cond) for cond in (GT, GE, HI, LS, LT, AL)] + [branch(4, GT, 1)]
     pops = [pop(0x8010, HI), pop(1, HI), pop(0x8010), pop(0x8010, LS), block(1, SP, 0x8010, 1, 0, 0, HI), block(1, SP, 0x8010, 2, 0, 1, HI),
-            block(1, SP, 0x8010, 1, 1, 1, HI), block(1, 4, 0x8010, 1, 0, 1, HI), push(0x8010, HI), transfer(1, 4, SP, 4, p=0, cond=HI)]
+            block(1, SP, 0x8010, 1, 1, 1, HI), block(1, 4, 0x8010, 1, 0, 1, HI), push(0x8010, HI)]
+    pops += [pop_one(4, HI), pop_one(PC, HI), pop_one(8, HI), pop_one(PC), pop_one(PC, LS), push_one(LR, HI)] + near_misses(pop_one(PC, HI))
     words = compares + jumps + branches + pops + FLAGS[:4] + FLAGS[6:] + NO_FLAGS[4:16]
     states = [(0, 0, 0, 0)]
     states += [(tag, 2, limit, 0) for tag in (1, 2, 3, 4) for limit in (5, 0)] + [(5, 0x02000010, 3, 0), (5, 0x02000010, 0, 0)]

@@ -1,10 +1,11 @@
 """Functions at random as a compiler lays them out, so that a walk over one finds much: an entry, blocks with labels, calls, pool loads, jump
-tables and inline tables, one inside another, pools between blocks or behind the return, and another function after it."""
+tables and inline tables, one inside another, pools between blocks or behind the return, and another function after it. A quarter of them save
+LR by STR LR, [SP, #-4]! and return by LDR PC, [SP], #4; others do one of the two, or save other registers so."""
 import random
 
 from walk import (
     ADD, AL, BASE, CMP, EOR, EQ, GE, GT, HI, HIGH, LE, LOW, LR, LS, LT, MI, NE, PC, RETURN, SP, STEP, SUB, Request,
-    b, block, branch, bx, compare, data, imm, jump, mov, pool, pop, push, shifted, table_load, transfer,
+    b, block, branch, bx, compare, data, imm, jump, mov, pool, pop, pop_one, push, push_one, shifted, table_load, transfer,
 )
 
 CONDITIONS = (EQ, NE, GE, GT, LS, HI, LT, MI, LE)
@@ -43,7 +44,7 @@ class Draft:
     def drop_pools(self):
         for label in self.waiting:
             self.set(label)
-            self.put(random.choice([random.getrandbits(32), BASE + 4 * random.getrandbits(12), RETURN, push(0x4010)]))
+            self.put(random.choice([random.getrandbits(32), BASE + 4 * random.getrandbits(12), RETURN, push(0x4010), push_one(LR)]))
         self.waiting = []
 
     def finished(self):
@@ -58,7 +59,8 @@ def plain(draft, depth):
         draft.put(random.choice([
             data(random.choice([ADD, SUB, EOR]), reg(), reg(), random.choice([imm(random.randrange(9)), shifted(reg())])),
             mov(reg(), imm(random.randrange(9))), mov(reg(), shifted(reg())), mov(reg(), shifted(reg(), 0, 2)),
-            transfer(random.randrange(2), reg(), random.choice([SP, 4, 0]), 4 * random.randrange(4)), compare(CMP, reg(), imm(3)), STEP]))
+            transfer(random.randrange(2), reg(), random.choice([SP, 4, 0]), 4 * random.randrange(4)), compare(CMP, reg(), imm(3)), STEP,
+            random.choice([push_one, pop_one])(random.choice([0, 3, 4, 9]), random.choice([AL, AL, NE]))]))
 
 
 def load(draft, depth):
@@ -87,7 +89,7 @@ def skip(draft, depth):
     draft.go(over, random.choice(CONDITIONS))
     blocks(draft, depth + 1, (1, 2))
     if random.random() < .25:
-        draft.put(random.choice([RETURN, pop(0x8010), bx(LR, NE), pop(0x8010, EQ)]))
+        draft.put(random.choice([RETURN, pop(0x8010), bx(LR, NE), pop(0x8010, EQ), pop_one(PC), pop_one(PC, EQ)]))
     draft.set(over)
 
 
@@ -117,9 +119,12 @@ def switch(draft, depth):
     limit, end = random.randrange(1, 4), draft.label()
     cases = [draft.label() for _ in range(random.randrange(1, limit + 2))]
     draft.put(compare(CMP, 0, imm(limit)))
-    if random.random() < .3:
+    way = random.random()
+    if way < .3:
         draft.go(end, GT)
         draft.put(compare(CMP, 0, imm(0)), jump(0, GE))
+    elif way < .5:
+        draft.put(random.choice([pop(0x8010, HI), pop_one(PC, HI)]), jump(0, AL))
     else:
         draft.put(jump(0, LS))
     draft.go(end)
@@ -159,32 +164,68 @@ def blocks(draft, depth, counts):
         random.choices([kind for kind, _ in kinds], [weight for _, weight in kinds])[0](draft, depth)
 
 
+# How LR is saved and how the function returns: by one register both times, and by one register once or with others.
+BY_ONE = (
+    ([push_one(LR)], [pop_one(PC)]), ([push_one(LR), data(SUB, SP, SP, imm(4))], [data(ADD, SP, SP, imm(4)), pop_one(PC)]),
+    ([push_one(LR), push_one(4)], [pop_one(4), pop_one(PC)]), ([push_one(LR), push(0x30)], [pop(0x30), pop_one(PC)]),
+)
+MIXED = (
+    ([push_one(LR)], [pop(0x8000)]), ([push_one(LR)], [pop_one(LR), RETURN]), ([push(0x4000)], [pop_one(PC)]), ([push(0x4010)], [pop_one(4), pop_one(PC)]),
+    ([push_one(4), push_one(LR)], [pop(0x4010), RETURN]), ([push_one(5), push(0x4010)], [pop_one(PC, NE), pop(0x8010)]),
+    ([push_one(LR, NE)], [pop_one(PC, NE), RETURN]),
+)
+
+
 def end(draft):
     kind = random.random()
     if kind < .15:
         draft.load(12)
         draft.put(bx(12))
-    elif kind < .25:
+    elif kind < .22:
         draft.put(mov(12, shifted(SP)), branch(random.randrange(0x40, 0x1000)))
+    elif kind < .3:
+        # Gone to another function under a condition, and the next one's entry right behind.
+        draft.put(branch(random.randrange(4, 0x30), random.choice(CONDITIONS)), random.choice([push(0x4010), push_one(LR)]), STEP, RETURN)
     else:
-        draft.put(random.choice([RETURN, RETURN, pop(0x8010), pop(0x8070), mov(PC, shifted(LR)), transfer(1, PC, SP, 4, p=0), block(1, SP, 0x8010, 1, 0, 1)]))
+        draft.put(random.choice([RETURN, RETURN, pop(0x8010), pop(0x8070), mov(PC, shifted(LR)), pop_one(PC), block(1, SP, 0x8010, 1, 0, 1)]))
 
 
-def rich():
-    """A function with options that mostly let it be accepted."""
+def entered(by_one):
+    """The words of an entry, and those of the return or None."""
+    if by_one:
+        return random.choice(BY_ONE)
+    if random.random() < .16:
+        return random.choice(MIXED)
+    return random.choice([[push(0x4010)], [push(0x4070)], [push(0x4010), data(SUB, SP, SP, imm(8))], [block(0, SP, 0x4000, 2, 0, 1)], []]), None
+
+
+# What stands behind a function.
+FOLLOWING = ([push(0x4010), STEP, RETURN], [push_one(LR), STEP, pop_one(PC)], [RETURN], [STEP], [])
+
+
+def rich(by_one=None):
+    """A function with options that mostly let it be accepted; whether it is one of BY_ONE is left to chance unless said."""
     draft = Draft()
     before = [draft.label() for _ in range(random.choice((0, 0, 0, 1, 2)))]
     for label in before:
         draft.set(label)
         draft.put(random.getrandbits(32))
     start = 4 * len(draft.words)
-    draft.put(*random.choice([[push(0x4010)], [push(0x4070)], [push(0x4010), data(SUB, SP, SP, imm(8))], [block(0, SP, 0x4000, 2, 0, 1)], []]))
+    entry, back = entered(random.random() < .25 if by_one is None else by_one)
+    draft.put(*entry)
     for label in before:
         draft.load(random.choice(SCRATCH), label)
     blocks(draft, 0, (2, 3, 3, 4))
-    end(draft)
+    # Now and then what stands behind it is called and comes before the pools: a long branch goes there, unless it is an entry.
+    is_called, following = random.random() < .1, draft.label()
+    if is_called:
+        draft.go(following, AL, 1)
+    draft.put(*back) if back else end(draft)
+    if not is_called:
+        draft.drop_pools()
+    draft.set(following)
+    draft.put(*random.choice(FOLLOWING[:3] if is_called else FOLLOWING))
     draft.drop_pools()
-    draft.put(*random.choice([[], [push(0x4010), STEP, RETURN], [RETURN], [STEP]]))
     words = draft.finished()
     size = 4 * len(words)
     module = random.choice([None, None, None, (0, size + 0x100), (start, size), (0, size - 4 * random.randrange(3))])

@@ -5,8 +5,9 @@ Usage: walk.py WALK
 
 WALK is the path of the built `walk`. With the original's answers: the planned requests, code and options at random, the functions of rich.py,
 and planned requests and rich functions with a few words changed; then the examples of examples.py. The seed is fixed, so the files come out
-the same. What is said of the original's answers is counted, printed and asserted: every outcome is there, and a quarter are accepted with
-rich lists. fresh.py makes others for a longer comparison.
+the same. What is said of the original's answers is counted, printed and asserted: every outcome is there, a quarter are accepted with rich
+lists, and a fifth of the functions of rich.py, every fourth of which is made so, are accepted, entered and left by one register. fresh.py makes
+others for a longer comparison.
 """
 import collections
 import pathlib
@@ -18,7 +19,7 @@ import sys
 
 from machines import (
     ADD, AL, ASR, CMP, EOR, EQ, GE, GT, HI, LE, LR, LS, LSL, LSR, LT, MI, NE, NV, PC, ROR, SP, SUB, TOP,
-    block, branch, bx, by_register, by_shift, compare, data, imm, mov, pop, push, shifted, transfer,
+    block, branch, bx, by_register, by_shift, compare, data, imm, mov, near_misses, pop, pop_one, push, push_one, shifted, transfer,
 )
 
 SEED = 20261115
@@ -303,6 +304,71 @@ def planned():
             [b(0, 2, AL, 1), 0xE12FFF34, RETURN], [0xE1040095, RETURN], [0xEE004F10, RETURN], [0xE129F004, RETURN], [0xE16F0F14, RETURN], [0xEF000000, RETURN]):
         yield Request(words, check=1)
     yield Request([b(0, 2, EQ), mov(0, shifted(4)), RETURN], check=1)
+    yield from of_one_register()
+
+
+def of_one_register():
+    """Document 02's pushes and pops of one register, and words close to them, for each place that asks for a push or a pop. Bits 15 to 0 of
+    push_one(4) hold LR, and those of pop_one(8) hold PC: their lists do not."""
+    entry, back = push_one(LR), pop_one(PC)
+
+    # Whole functions, with the next one behind them: entered and left by one register, and one way in and the other out.
+    for first in (entry, push(0x4000), push(0x4010)):
+        for last in (back, pop(0x8000), pop(0x8010)):
+            yield Request([first, STEP, last, entry, STEP, back])
+    yield Request([entry, b(1, 0x40, AL, 1), pop_one(LR), RETURN, entry, back])
+    yield Request([push_one(4), entry, pool(2, 5), pop_one(4), back, 0x11111111, entry, back], check=1)
+    yield Request([entry, compare(CMP, 0, imm(0)), pop_one(PC, EQ), STEP, back, entry, back])
+    yield Request([entry, compare(CMP, 0, imm(0)), b(2, 5, EQ), STEP, back, STEP, back, entry, back])
+    yield Request([b(0, 2, EQ), entry, STEP, back], start=4)
+
+    # Returns and what looks like them.
+    for word in [pop_one(PC, EQ), pop_one(PC, LE), pop_one(8), pop_one(LR), pop_one(SP), push_one(PC)] + near_misses(back):
+        yield Request([NOP, word, STEP, RETURN])
+    yield Request([b(0, 2, EQ), back, back, RETURN])
+    yield Request([b(0, 3, EQ), back, NOP, back, RETURN])
+
+    # An entry after a branch; a word that is passed over counts as the branch.
+    for first in (b(0, 2, EQ), b(0, 2), b(0, 3, EQ), b(0, 0x40), b(0, 0x40, EQ), b(0, 2, AL, 1)):
+        for second in (entry, push_one(LR, NE), push_one(4)):
+            yield Request([first, second, STEP, RETURN, RETURN])
+    for second in [push_one(SP), push_one(PC), pop_one(LR)] + near_misses(entry):
+        yield Request([b(0, 2, EQ), second, STEP, RETURN, RETURN])
+    yield Request([b(0, 3, EQ), b(1, 0x40), entry, RETURN])
+    yield Request([b(0, 3, EQ), NOP, entry, RETURN])
+    for cond in (EQ, AL):
+        yield Request([pool(0, 2), NOP, b(2, 5, cond), entry, RETURN, RETURN])
+    yield Request([pool(0, 2, 1), b(1, 6), 0x11111111, entry, RETURN, RETURN, RETURN])
+
+    # The next word is the destination of a long branch, and an entry or not.
+    for follow in [entry, push_one(LR, NE), push_one(4)] + near_misses(entry):
+        yield Request([b(0, 3, AL, 1), pool(1, 5, 1), RETURN, follow, RETURN, 0x11111111])
+    for follow in (NOP, entry, push(0x4000), push_one(4), back):
+        yield Request([b(0, 3, AL, 1), pool(1, 5, 1), back, follow, RETURN, 0x11111111])
+
+    # A pop under HI before a jump table.
+    for word in [pop_one(PC, HI), pop_one(4, HI), pop_one(8, HI), pop_one(PC, LS), pop_one(PC), push_one(LR, HI)] + near_misses(pop_one(PC, HI)):
+        yield Request([entry, compare(CMP, 0, imm(1)), word, STEP, jump(0, AL), b(5, 8), b(6, 8), b(7, 9), STEP, back, RETURN])
+
+    # What a register holds: a pop forgets its one register, a push none.
+    for words in (
+            [pool(0, 4, 4), pop_one(4), NOP, bx(4), 5], [pool(0, 4, 2), pop_one(8), NOP, bx(2), 5], [pool(0, 4, 4), push_one(4), NOP, bx(4), 5],
+            [pool(0, 4, 2), push_one(4), NOP, bx(2), 5], [pool(0, 4, LR), entry, pop_one(LR), bx(LR), 5]):
+        yield Request(words)
+
+    # The check: a push defines its one register and no other, under a condition too; so does a pop, but for a return.
+    for words in (
+            [push_one(4), mov(0, shifted(4)), RETURN], [push_one(4, NE), mov(0, shifted(4)), RETURN], [push_one(4), mov(0, shifted(5)), RETURN],
+            [push_one(8), STEP, mov(0, shifted(8)), RETURN], [push_one(4), push_one(5), entry, data(ADD, 0, 4, shifted(5)), back],
+            [push_one(SP), push_one(PC), RETURN], [pop_one(4), mov(0, shifted(4)), RETURN], [pop_one(8, EQ), mov(0, shifted(8)), RETURN],
+            [pop_one(8), mov(0, shifted(4)), RETURN], [b(0, 2, EQ), back, mov(0, shifted(4)), RETURN]):
+        yield Request(words, check=1)
+    for word in near_misses(push_one(4)) + near_misses(pop_one(4)) + [0xE72D0004, 0xE69D0004]:
+        yield Request([word, mov(0, shifted(4)), RETURN], check=1)
+
+    # Condition 1111 has neither.
+    for word in (push_one(LR, NV), pop_one(PC, NV)):
+        yield Request([NOP, word, RETURN])
 
 
 # ---- requests at random
@@ -327,15 +393,15 @@ def piece(at, total):
     if kind == 13:
         return [pool(at, max(at - random.randrange(9), -1), random.choice([0, 1, 12]))]
     if kind == 14:
-        return [random.choice([bx(LR), bx(12), bx(reg()), pop(0x8010), pop(0x8010, HI), mov(PC, shifted(LR)), bx(LR, EQ)])]
+        return [random.choice([bx(LR), bx(12), bx(reg()), pop(0x8010), pop(0x8010, HI), mov(PC, shifted(LR)), bx(LR, EQ), pop_one(PC, cond), pop_one(reg())])]
     if kind == 15:
-        return [random.choice([push(0x4010), push(0x4010, NE), push(0x30), block(0, SP, 0x60, random.randrange(4))])]
+        return [random.choice([push(0x4010), push(0x4010, NE), push(0x30), block(0, SP, 0x60, random.randrange(4)), push_one(LR, cond), push_one(reg())])]
     if kind == 16:
         return [b(at, near, random.choice([AL, EQ]), 1)]
     if kind == 17:
         limit = random.randrange(5)
         here = [compare(CMP, 1, imm(limit))] + [STEP] * random.randrange(2)
-        here += random.choice([[jump(1, LS)], [b(at, near, GT), compare(CMP, 1, imm(0)), jump(1, GE)], [pop(0x8010, HI), jump(1, AL)]])
+        here += random.choice([[jump(1, LS)], [b(at, near, GT), compare(CMP, 1, imm(0)), jump(1, GE)], [pop(0x8010, HI), jump(1, AL)], [pop_one(PC, HI), jump(1, AL)]])
         here.append(b(at + len(here), near))
         return here + [b(at + len(here) + i, min(at + len(here) + random.randrange(1, 12), total)) for i in range(limit + 1)]
     if kind == 18:
@@ -367,7 +433,7 @@ def at_random():
         words += piece(len(words), total)
     words = words[:total]
     if random.random() < 0.6:
-        words[-1 - random.randrange(min(3, total))] = random.choice([RETURN, RETURN, pop(0x8010), bx(12)])
+        words[-1 - random.randrange(min(3, total))] = random.choice([RETURN, RETURN, pop(0x8010), bx(12), pop_one(PC)])
     size = 4 * total
     base = random.choice([BASE, BASE, BASE, LOW, HIGH - size - 4, BASE + 0x1000])
     tail = random.randbytes(random.choice([0, 0, 0, 1, 3]))
@@ -442,7 +508,7 @@ def answers(program, requests, *options):
 def compared(requests, program):
     """The original's answers step by step, without those that are not compared."""
     texts = answers(program, requests, 'steps')
-    return [(request.pack(), text) for request, text in zip(requests, texts, strict=True) if comparable(request, text)]
+    return [(request, text) for request, text in zip(requests, texts, strict=True) if comparable(request, text)]
 
 
 def made(program):
@@ -464,24 +530,33 @@ def outcome(text):
     return 'accepted' if is_accepted else int(words[1]), is_accepted and len(set(kinds)) >= 2 and len(kinds) >= 4
 
 
-def counted(pairs):
+def by_one(request, text):
+    """Accepted, with a push of LR alone as the first instruction and a pop of PC alone as the last."""
+    found = re.search(r'^function \w+ \w+ (\w+) (\w+)$', text, re.M)
+    return bool(found) and request.word(int(found[1], 16)) == push_one(LR) and request.word(int(found[2], 16) - 4) == pop_one(PC)
+
+
+def counted(groups):
+    pairs = [pair for group in groups.values() for pair in group]
     ends = collections.Counter(outcome(text)[0] for _, text in pairs)
     rich = sum(outcome(text)[1] for _, text in pairs)
+    one = {name: sum(by_one(*pair) for pair in group) for name, group in groups.items()}
     print(f"walks: {len(pairs)} requests with the original's answers, {rich} accepted with rich lists")
+    print(', '.join(f'{len(group)} {name} ({one[name]} entered and left by one register)' for name, group in groups.items()))
     print('ends:', ', '.join(f'{end} {ends[end]}' for end in sorted(ends, key=str)))
-    assert len(pairs) >= 2000 and 4 * rich >= len(pairs)
+    assert len(pairs) >= 2000 and 4 * rich >= len(pairs) and 5 * one['rich'] >= RICH
     assert set(ends) == {'accepted', 5, 6, 7, 8, 9, 10, 11, 12, 14} and min(ends.values()) >= 10
+    return pairs
 
 
 def main():
     from rich import rich
     program = sys.argv[1]
     random.seed(SEED)
-    requests = PLANNED + [at_random() for _ in range(AT_RANDOM)] + [rich() for _ in range(RICH)]
-    requests += [changed(rich() if random.random() < .6 else random.choice(PLANNED)) for _ in range(CHANGED)]
-    pairs = compared(requests, program)
-    counted(pairs)
-    pairs += made(program)
+    requests = {'planned': PLANNED, 'at random': [at_random() for _ in range(AT_RANDOM)], 'rich': [rich(i % 4 == 0) for i in range(RICH)]}
+    requests['changed'] = [changed(rich() if random.random() < .6 else random.choice(PLANNED)) for _ in range(CHANGED)]
+    pairs = counted({name: compared(group, program) for name, group in requests.items()})
+    pairs = [(request.pack(), text) for request, text in pairs] + made(program)
     folder = pathlib.Path(__file__).resolve().parents[2] / 'crates/walks'
     (folder / 'stdin').write_bytes(b''.join(request for request, _ in pairs))
     (folder / 'stdout').write_text('\n'.join(text for _, text in pairs))

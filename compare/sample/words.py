@@ -22,13 +22,21 @@ def cases():
 
 
 def named():
-    """Moves with every shift, and block transfers with every mode and base."""
+    """Moves with every shift, block transfers with every mode and base, single transfers with every form and base and an offset close to 4, and
+    every push and pop of one register."""
     for low in range(4096):
         for s in range(2):
             yield 0xE1A00000 | s << 20 | random.randrange(16) << 12 | low
     for high in range(512):
         for _ in range(16):
             yield 0xE8000000 | high << 16 | random.getrandbits(16)
+    for high in range(1024):
+        for offset in (0, 4, 5, 6, 8, 12, 0x104, 0x804):
+            yield random.randrange(15) << 28 | 1 << 26 | high << 16 | random.randrange(16) << 12 | offset
+    for word in (0x052D0004, 0x049D0004):
+        for cond in range(16):
+            for rd in range(16):
+                yield cond << 28 | word | rd << 12
 
 
 def main():

@@ -47,7 +47,8 @@ SHIFTS = "LSL LSR ASR ROR".split()
 EXAMPLES = [int(text, 16) for text in """
     e59f0000 e12fff1e 12345678 eafffffe 0afffffd ea00003e e3500002 908ff100
     e59fc000 e12fff1c e3500000 e1a00004 e7f000f0 e1a01101 e8810001 e7810001
-    e89f8000 eafffffd e59f0fff e3500101 e0000291 e4b01004 ec410000""".split()]
+    e89f8000 eafffffd e59f0fff e3500101 e0000291 e4b01004 ec410000 e52de004
+    e49df004 e52d4004 e49d8004 e72d0004 e69d0004""".split()]
 
 
 # ---------------------------------------------------------------- bit patterns
@@ -122,8 +123,10 @@ def make_diagrams():
         rows.extend((name, Pattern(text)) for text in texts)
 
     # The naming rules: a narrower row stands before the wider one.
-    draw("PUSH", "cccc 1001 0010 1101 .... .... .... ....")
-    draw("POP", "cccc 1000 1011 1101 .... .... .... ....")
+    draw("PUSH", "cccc 1001 0010 1101 .... .... .... ....",   # STMDB SP!
+                 "cccc 0101 0010 1101 .... 0000 0000 0100")   # STR Rd, [SP, #-4]!
+    draw("POP", "cccc 1000 1011 1101 .... .... .... ....",    # LDMIA SP!
+                "cccc 0100 1001 1101 .... 0000 0000 0100")    # LDR Rd, [SP], #4
     draw("MOV", "cccc 0001 101. zzzz .... 0000 0000 ....",    # LSL #0
                 "cccc 0001 101. zzzz .... 0000 0110 ....")    # RRX
     for kind, name in enumerate(SHIFTS):
@@ -203,7 +206,7 @@ def make_diagrams():
 
 
 DIAGRAMS = make_diagrams()
-NAMING_DIAGRAMS = 12      # the first rows: PUSH, POP, LSL #0, RRX and the shifts
+NAMING_DIAGRAMS = 14      # the first rows: PUSH, POP, LSL #0, RRX and the shifts
 
 
 def diagram_row(word):
@@ -222,11 +225,14 @@ def key(word):
             field(word, 7, 4), field(word, 12, 12))
 
 
-def unnamed(name):
+def unnamed(name, word):
     """The class before the naming rules."""
     if name in SHIFTS:
         return "MOV"
-    return {"PUSH": "STM", "POP": "LDM"}.get(name, name)
+    if name in ("PUSH", "POP"):
+        block = field(word, 27, 25) == 0b100
+        return {"PUSH": "STM" if block else "STR", "POP": "LDM" if block else "LDR"}[name]
+    return name
 
 
 def named(name, word):
@@ -235,6 +241,10 @@ def named(name, word):
     if name == "STM" and top == 0b1001_0010_1101:
         return "PUSH"
     if name == "LDM" and top == 0b1000_1011_1101:
+        return "POP"
+    if name == "STR" and top == 0b0101_0010_1101 and field(word, 11, 0) == 4:
+        return "PUSH"
+    if name == "LDR" and top == 0b0100_1001_1101 and field(word, 11, 0) == 4:
         return "POP"
     if name == "MOV" and field(word, 25, 25) == 0:
         kind = field(word, 6, 5)
@@ -528,12 +538,6 @@ GROUPS = [
                note="one register"),
            Row("cccc 1000 1011 1101 .... .... .... ....", "POP", when=one_register,
                note="one register")]),
-    Group("alias: one register pushed or popped by STR, LDR",
-          "STR Rd, [SP, #-4]! and LDR Rd, [SP], #4",
-          "push or pop", "PUSH POP",
-          "STR and LDR: A4, STR and LDR",
-          [Row("cccc 0101 0010 1101 .... 0000 0000 0100", "STR"),
-           Row("cccc 0100 1001 1101 .... 0000 0000 0100", "LDR")]),
     Group("alias: nop",
           "e1a00000, MOV r0, r0",
           "nop", "ILLEGAL",
@@ -692,12 +696,23 @@ def add_register_lists(sample):
 
 
 def add_stack_transfers(sample):
-    """LDR and STR on SP keep their names."""
+    """Both sides of the rules for PUSH and POP of one register."""
     for top in (0b0101_0010, 0b0100_1001):
         for cond in range(15):
             for offset in (4, 8):
                 target = sample.draw.pick(range(16))
                 sample.add(cond << 28 | top << 20 | 13 << 16 | target << 12 | offset)
+        for target in range(16):
+            sample.add(ALWAYS << 28 | top << 20 | 13 << 16 | target << 12 | 4)
+        # Under condition 1111 the same bits are no instruction.
+        sample.add(UNCONDITIONAL << 28 | top << 20 | 13 << 16 | 14 << 12 | 4)
+    # All 64 forms on R12, SP and R15, with an offset of 4 or of R4: only two of
+    # them on SP are renamed.
+    for form in range(64):
+        for base in (12, 13, 15):
+            word = 0b01 << 26 | form << 20 | base << 16 | 4
+            word |= sample.draw.pick(range(16)) << 12
+            sample.add(with_condition(word, sample.cond()))
 
 
 def add_shifts(sample):
@@ -852,7 +867,7 @@ def check_rule(words, classes):
     faults = []
     by_key = collections.defaultdict(lambda: collections.defaultdict(list))
     for word, name in zip(words, classes):
-        plain = unnamed(name)
+        plain = unnamed(name, word)
         by_key[key(word)][plain].append(word)
         if named(plain, word) != name:
             faults.append(f"{word:08x} {name}: the naming rules give {named(plain, word)}")
@@ -992,8 +1007,9 @@ def groups_page(version, words, classes, printed, members):
         " condition, one word with the should-be bits right and one with all other bits drawn;"
         " the same under condition 1111, the second word only in the PLD and coprocessor"
         " spaces; more words in the multiply, swap, halfword and control spaces; LDRD and STRD"
-        " of both parities in every form; both sides of the naming rules (PUSH, POP, LSL, LSR,"
-        " ASR, ROR, RRX, LSL #0); coprocessor numbers that objdump treats specially; words one bit"
+        " of both parities in every form; both sides of the naming rules (PUSH and POP of a list"
+        " and of one register, LSL, LSR, ASR, ROR, RRX, LSL #0); coprocessor numbers that objdump"
+        " treats specially; words one bit"
         " away from a naming rule or with one should-be bit wrong; three words at least for each"
         " row above; and words until every conditional class has two"
         " well-formed ones under each of the fifteen conditions, and each class twenty that"

@@ -1,2 +1,3 @@
 -- The decoder beside the manual.
 pub mod ManualLaws
+pub mod StackLaws

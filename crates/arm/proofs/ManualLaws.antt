@@ -1,4 +1,4 @@
--- For every word: at most one class has a diagram that fits; the encoding's class, and the class after document 01's naming rules,
+-- For every word: at most one class has a diagram that fits; the encoding's class, and the class after the naming rules,
 -- are the manual's; and Illegal is exactly what fits no diagram or is called UNDEFINED.
 use mathlib.Core.Path.{_≡_, refl, sym, ap, subst, _∙_}
 use mathlib.Core.Bool.{Bool, true, false}
@@ -9,7 +9,7 @@ use native.Mathlib.Omega.{arith}
 use lib.Dec.{T, eqb, ltb, ltb→lt}
 use lib.ListN.{length}
 use Rattle.classes.specs.declared.Class.{Class}
-use Rattle.classes.specs.declared.Class.the-variants.{Illegal, Mov, Stm, Ldm, Push, Pop}
+use Rattle.classes.specs.declared.Class.the-variants.{Illegal, Mov, Stm, Ldm, Str, Ldr, Push, Pop}
 use Rattle.classes.specs.declared.ShiftOp.{ShiftOp}
 use Rattle.classes.specs.declared.ShiftOp.the-variants.{Lsl, Lsr, Asr, Ror, Rrx}
 use Rattle.classes.specs.declared.Op2.{Op2}
@@ -19,7 +19,7 @@ use Rattle.encodings.specs.Diagram
 use Rattle.encodings.specs.Diagram.{Encoding, fits, fitting, firstOr, bits, view, unconditional}
 use Rattle.encodings.specs.Encodings.{encodings, undefineds, encodingOn, encodingOf}
 use Rattle.encodings.specs.Deciding.{viewAt}
-use Rattle.arm.specs.Naming.{shiftName, movName, stmName, ldmName, nameOf, classOf}
+use Rattle.arm.specs.Naming.{shiftName, movName, stmName, ldmName, strName, ldrName, nameOf, classOf}
 use Rattle.modes.specs.Operands.{op2Of}
 use Rattle.arm.specs.Manual.{Fits, Undefined, OfManual, Added, Named, Left, by-diagram, by-text, by-absence}
 use Rattle.classes.proofs.Numbers.{same-number}
@@ -216,33 +216,75 @@ added-ldm w = go (eqb (w / 65536 % 512) 189)
     go true = inr (omega arith)
     go false = inl refl
 
--- a rule keeps the name, or gives one of the added ones
-renamed : (k : Class) (w : ℕ) → (nameOf k w ≡ k) ⊎ Added (nameOf k w)
+-- the same for two tests
+added-by-two : (a b : Bool) (k j : Class) → Added j → (elim a as (λ _. Class) [ true ↦ elim b as (λ _. Class) [ true ↦ j | false ↦ k ] | false ↦ k ] ≡ k) ⊎ Added (elim a as (λ _. Class) [ true ↦ elim b as (λ _. Class) [ true ↦ j | false ↦ k ] | false ↦ k ])
+added-by-two true true k j h = inr h
+added-by-two true false k j h = inl refl
+added-by-two false b k j h = inl refl
+
+added-str : (w : ℕ) → (strName w ≡ Str) ⊎ Added (strName w)
+unfolding strName classNo
+added-str w = added-by-two (eqb (w / 65536 % 4096) 1325) (eqb (w % 4096) 4) Str Push (omega arith, omega arith)
+
+added-ldr : (w : ℕ) → (ldrName w ≡ Ldr) ⊎ Added (ldrName w)
+unfolding ldrName classNo
+added-ldr w = added-by-two (eqb (w / 65536 % 4096) 1181) (eqb (w % 4096) 4) Ldr Pop (omega arith, omega arith)
+
+-- the rule by which a word of class k gets the name n
+pub data Rule (k n : Class) (w : ℕ) : Type 0 where
+  by-mov : k ≡ Mov → movName (op2Of w) ≡ n → Rule k n w
+  by-stm : k ≡ Stm → stmName w ≡ n → Rule k n w
+  by-ldm : k ≡ Ldm → ldmName w ≡ n → Rule k n w
+  by-str : k ≡ Str → strName w ≡ n → Rule k n w
+  by-ldr : k ≡ Ldr → ldrName w ≡ n → Rule k n w
+  by-none : k ≡ n → Rule k n w
+
+pub rule : (k n : Class) (w : ℕ) → nameOf k w ≡ n → Rule k n w
 unfolding nameOf
-renamed k w = go (is k Mov) refl (is k Stm) refl (is k Ldm) refl
+rule k n w = go (is k Mov) refl (is k Stm) refl (is k Ldm) refl (is k Str) refl (is k Ldr) refl
   where
     known : (j : Class) → is k j ≡ true → k ≡ j
     known j e = same-number k j (subst (λ (b : Bool). T b) (sym e) tt)
 
-    kept : (j : Class) → k ≡ j → (n : Class) → (n ≡ j) ⊎ Added n → (n ≡ k) ⊎ Added n
-    kept j e n (inl f) = inl (f ∙ sym e)
-    kept j e n (inr a) = inr a
-
-    named : Bool → Bool → Bool → Class
-    named a b c =
+    named : Bool → Bool → Bool → Bool → Bool → Class
+    named a b c d f =
         elim a [
           | true ↦ movName (op2Of w)
           | false ↦ elim b [
             | true ↦ stmName w
-            | false ↦ elim c [ true ↦ ldmName w | false ↦ k ]
+            | false ↦ elim c [
+              | true ↦ ldmName w
+              | false ↦ elim d [
+                | true ↦ strName w
+                | false ↦ elim f [ true ↦ ldrName w | false ↦ k ]
+              ]
+            ]
           ]
         ]
 
-    go : (a : Bool) → is k Mov ≡ a → (b : Bool) → is k Stm ≡ b → (c : Bool) → is k Ldm ≡ c → (named a b c ≡ k) ⊎ Added (named a b c)
-    go true p b q c r = kept Mov (known Mov p) (movName (op2Of w)) (added-mov (op2Of w))
-    go false p true q c r = kept Stm (known Stm q) (stmName w) (added-stm w)
-    go false p false q true r = kept Ldm (known Ldm r) (ldmName w) (added-ldm w)
-    go false p false q false r = inl refl
+    go : (a : Bool) → is k Mov ≡ a → (b : Bool) → is k Stm ≡ b → (c : Bool) → is k Ldm ≡ c → (d : Bool) → is k Str ≡ d → (f : Bool) → is k Ldr ≡ f → named a b c d f ≡ n → Rule k n w
+    go true p b q c r d s f t e = by-mov (known Mov p) e
+    go false p true q c r d s f t e = by-stm (known Stm q) e
+    go false p false q true r d s f t e = by-ldm (known Ldm r) e
+    go false p false q false r true s f t e = by-str (known Str s) e
+    go false p false q false r false s true t e = by-ldr (known Ldr t) e
+    go false p false q false r false s false t e = by-none e
+
+-- a rule keeps the name, or gives one of the added ones
+renamed : (k : Class) (w : ℕ) → (nameOf k w ≡ k) ⊎ Added (nameOf k w)
+renamed k w = go (rule k (nameOf k w) w refl)
+  where
+    kept : (j n : Class) → k ≡ j → n ≡ nameOf k w → (n ≡ j) ⊎ Added n → (nameOf k w ≡ k) ⊎ Added (nameOf k w)
+    kept j n e f (inl g) = inl (sym f ∙ g ∙ sym e)
+    kept j n e f (inr a) = inr (subst (λ (c : Class). Added c) f a)
+
+    go : Rule k (nameOf k w) w → (nameOf k w ≡ k) ⊎ Added (nameOf k w)
+    go (by-mov e f) = kept Mov (movName (op2Of w)) e f (added-mov (op2Of w))
+    go (by-stm e f) = kept Stm (stmName w) e f (added-stm w)
+    go (by-ldm e f) = kept Ldm (ldmName w) e f (added-ldm w)
+    go (by-str e f) = kept Str (strName w) e f (added-str w)
+    go (by-ldr e f) = kept Ldr (ldrName w) e f (added-ldr w)
+    go (by-none e) = inl (sym e)
 
 illegal-kept : (w : ℕ) → nameOf Illegal w ≡ Illegal
 unfolding nameOf classNo
@@ -252,7 +294,7 @@ unmoved : (j k : Class) (w : ℕ) → nameOf j w ≡ k → (Added k → ⊥) →
 unmoved j k w e n =
     ⊎-elim (λ (f : nameOf j w ≡ j). sym f ∙ e) (λ (a : Added (nameOf j w)). absurd (n (subst (λ (c : Class). Added c) e a))) (renamed j w)
 
--- Where a diagram of k fits and the text does not call the word UNDEFINED, its class is k under 01's rules.
+-- Where a diagram of k fits and the text does not call the word UNDEFINED, its class is k under the naming rules.
 pub class-by-rule : (w : ℕ) (k : Class) → Fits w k → (Undefined w → ⊥) → classOf w ≡ nameOf k w
 unfolding classOf
 class-by-rule w k m n = ap (λ (j : Class). nameOf j w) (encoding-named w k m n)

@@ -7,7 +7,7 @@ use Rattle.classes.specs.Fields.{bit, rdOf, rnOf, rmOf}
 use Rattle.modes.specs.Operands.{op2Of, addrOf, modeOf, targetOf}
 use Rattle.regsets.specs.Sets.{formOf, usesOf, defsOf, flagsOf}
 use Rattle.encodings.specs.Encodings.{encodingOf}
-use Rattle.arm.specs.Naming.{classOf}
+use Rattle.arm.specs.Naming.{classOf, regsOf}
 
 -- a condition field other than 1110 and 1111
 abbrev pub isConditional : ℕ → Bool
@@ -26,7 +26,7 @@ decodeOf w address =
       op2 = op2Of w;
       addr = addrOf w;
       mode = modeOf w;
-      regs = w % 2 ^ 16;
+      regs = regsOf (classOf w) w;
       target = targetOf w address;
       uses = usesOf (formOf (encodingOf w)) w;
       defs = defsOf (formOf (encodingOf w)) w;

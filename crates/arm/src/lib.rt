@@ -15,7 +15,8 @@ ghost use Rattle.arm.specs.Naming.{classOf};
 ghost use Rattle.arm.specs.Ins.{decodeOf, isConditional};
 
 // A decoded word. Every field is read by its place, whatever the class: `rd` is bits 15 to 12 and `rn` bits 19 to 16 also where a page
-// gives them other names, `op2` is addressing mode 1, `addr` mode 2 and `mode` mode 4. Sets and flag follow the instruction's page.
+// gives them other names, `op2` is addressing mode 1, `addr` mode 2 and `mode` mode 4. Only `regs`, bits 15 to 0, is the one register of a
+// push or a pop that is a single transfer. Sets and flag follow the instruction's page.
 pub struct Ins {
     pub class: Class,
     pub cond: u8,
@@ -38,7 +39,7 @@ impl Ins {
         ensures { λ r. ⌜ r ≡ is (self .class) class ⌝ }
     {
         let own = self.class;
-        order::number(own) == order::number(class)
+        order::is(own, class)
     }
 
     // A condition field other than 1110 and 1111.
@@ -62,8 +63,9 @@ pub fn decode(word: u32, address: u32) -> Ins
 {
     let encoding = encoding::encoding(word);
     let form = sets::form(encoding);
+    let class = naming::name(encoding, word);
     Ins {
-        class: naming::name(encoding, word),
+        class,
         cond: (word / 0x1000_0000) as u8,
         s: word / 0x10_0000 % 2 == 1,
         rd: (word / 0x1000 % 16) as u8,
@@ -72,7 +74,7 @@ pub fn decode(word: u32, address: u32) -> Ins
         op2: operands::op2(word),
         addr: operands::addr(word),
         mode: operands::mode(word),
-        regs: (word % 0x1_0000) as u16,
+        regs: naming::regs(class, word),
         target: operands::target(word, address),
         uses: sets::uses(form, word),
         defs: sets::defs(form, word),

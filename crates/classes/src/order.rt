@@ -1,7 +1,7 @@
 // The number of each class, so that others can test and print a class without naming all 74.
 use crate::Class;
 ghost use mathlib.Core.Path.{_≡_};
-ghost use Rattle.classes.specs.Class.{classNo};
+ghost use Rattle.classes.specs.Class.{classNo, is};
 
 // A class's place in the order of its declaration.
 pub fn number(class: Class) -> u8
@@ -83,4 +83,10 @@ pub fn number(class: Class) -> u8
         Class::Ror => 72,
         Class::Illegal => 73,
     }
+}
+
+pub fn is(one: Class, other: Class) -> bool
+    ensures { λ r. ⌜ r ≡ is one other ⌝ }
+{
+    number(one) == number(other)
 }

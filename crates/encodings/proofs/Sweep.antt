@@ -144,6 +144,24 @@ region nv a n r k t op odd low h =
     ∙ same-number (narrowed es us (rest odd low)) k
     (subst (λ (b : Bool). T (is k b (narrowed es us (rest odd low)))) (inside-true (r op odd low) (h .1 .1 .1 .1)) cell)
 
+-- a test of the class at every choice of the deciding fields
+unfoldable pub everywhere : (ℕ → ℕ → Class → Bool) → Bool
+unfolding bits encodings undefineds fitting firstOr fits classNo Diagram.cond Diagram.uncond
+everywhere p =
+    every 2 0 (λ nv. every 256 0 (λ op.
+    let es = steps (nv ∷ bits 8 op) encodings in
+    let us = steps (nv ∷ bits 8 op) undefineds in
+    every 2 0 (λ odd. every 16 0 (λ low. p nv op (narrowed es us (rest odd low))))))
+
+pub everywhere-at : (p : ℕ → ℕ → Class → Bool) → T (everywhere p) → (nv op odd low : ℕ) → nv < 2 → op < 256 → odd < 2 → low < 16 → T (p nv op (encodingAt nv op odd low))
+unfolding everywhere
+everywhere-at p t nv op odd low v o d l =
+    let at : ℕ → ℕ → ℕ → ℕ → Bool = λ nv op odd low. p nv op (narrowed (steps (nv ∷ bits 8 op) encodings) (steps (nv ∷ bits 8 op) undefineds) (rest odd low)) in
+    let half = every-at 2 0 (λ nv. every 256 0 (λ op. every 2 0 (λ odd. every 16 0 (at nv op odd)))) t nv (omega arith) (omega arith) in
+    let row = every-at 256 0 (λ op. every 2 0 (λ odd. every 16 0 (at nv op odd))) half op (omega arith) (omega arith) in
+    let col = every-at 2 0 (λ odd. every 16 0 (at nv op odd)) row odd (omega arith) (omega arith) in
+    subst (λ (c : Class). T (p nv op c)) (sym (narrowed-view nv op odd low)) (every-at 16 0 (at nv op odd) col low (omega arith) (omega arith))
+
 -- regions: the whole range of `op` that a law names; `low` between two numbers, and not a multiply's or an extra transfer's
 abbrev pub anywhere : Region
 anywhere op odd low = []

@@ -75,7 +75,7 @@ fn rn(word: u32) -> u16
     one(word / 0x1_0000 % 16)
 }
 
-fn rd(word: u32) -> u16
+pub fn rd(word: u32) -> u16
     ensures { λ r. ⌜ r ≡ rdSet word ⌝ }
 {
     one(word / 0x1000 % 16)

@@ -2,7 +2,7 @@
 //! that the two decoders can be compared. `words check` compares the stand-in's two readings of every word.
 use std::io::{self, BufWriter, Read, Write};
 
-use unarm::{AddrLdrStr, BlxTarget, Class, Ins, LdrStrOffset, class_of, parse_arm, sets};
+use unarm::{AddrLdrStr, BlxTarget, Class, Ins, LdrStrOffset, class_of, encoding, parse_arm, sets};
 
 const CONDS: [&str; 16] = ["eq", "ne", "cs", "cc", "mi", "pl", "vs", "vc", "hi", "ls", "ge", "lt", "gt", "le", "al", "nv"];
 
@@ -62,17 +62,22 @@ fn offset(word: u32) -> u32 {
     }
 }
 
-/// For every word: the sets and the flag that follow from an instruction's operands are those that follow from its word, and it is
-/// conditional exactly where the field is below 1110. An illegal word has no condition left.
+/// For every word: the sets and the flag that follow from an instruction's operands, whatever its name, are those of the manual's instruction
+/// by its word; it is conditional exactly where the field is below 1110; and a push or a pop has the list of a block transfer, or the one
+/// register of a single one. An illegal word has no condition left.
 fn check() {
     for word in 0..=u32::MAX {
         let ins = parse_arm(word, 0x0200_0000);
         let class = class_of(word);
-        let form = sets::form(class);
+        let form = sets::form(encoding(word));
         assert_eq!(ins.used().0, sets::uses(form, word), "{word:08x}");
         assert_eq!(ins.defined().0, sets::defs(form, word), "{word:08x}");
         assert_eq!(ins.updates_condition_flags(), sets::updates_condition_flags(form, word), "{word:08x}");
         assert_eq!(ins.is_conditional(), class != Class::Illegal && word >> 28 < 14, "{word:08x}");
+        if let Ins::Push { regs, .. } | Ins::Pop { regs, .. } = ins {
+            let list = if word >> 27 & 1 == 1 { word as u16 } else { 1 << (word >> 12 & 15) };
+            assert_eq!(regs.0, list, "{word:08x}");
+        }
     }
     println!("4294967296 words");
 }

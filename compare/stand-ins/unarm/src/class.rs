@@ -1,4 +1,4 @@
-//! The class of each ARM word: `crates/encodings/src/encoding.rt`, function by function.
+//! The class of each ARM word in the manual: `encoding.rt` of `crates/encodings`, function by function.
 
 /// The manual's instructions in the order of their printed names, then the names that are added to them.
 #[derive(Clone, Copy, PartialEq, Eq, Debug)]

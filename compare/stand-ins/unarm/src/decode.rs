@@ -1,4 +1,4 @@
-//! Operands and names: `operands.rt` and `offset.rt` of `crates/modes/src`, `naming.rt` of `crates/arm/src`, into the original's shapes.
+//! Operands and names: `operands.rt` and `offset.rt` of `crates/modes` and `naming.rt` of `crates/arm`, into the original's shapes.
 use crate::class::{Class, encoding};
 use crate::{
     AddrLdrStr, AddrMiscLoad, BlxTarget, BranchTarget, Cond, Ins, LdmStmMode, LdrStrOffset, MiscLoadOffset, Op2, Op2Imm, Op2Shift, Reg,
@@ -32,7 +32,7 @@ fn reg(word: u32, place: u32) -> Reg {
     Reg::from_number(word >> place & 15).expect("four bits name a register")
 }
 
-/// The class of a word: the manual's, but for the names of shifts and of block transfers on SP.
+/// The class of a word: the manual's, but for the names of shifts and of pushes and pops.
 pub fn class_of(word: u32) -> Class {
     let class = encoding(word);
     match class {
@@ -40,8 +40,16 @@ pub fn class_of(word: u32) -> Class {
         // Bits 24 to 16: STMDB and LDMIA with SP written back and S clear.
         Class::Stm if word >> 16 & 0x1FF == 0b1_0010_1101 => Class::Push,
         Class::Ldm if word >> 16 & 0x1FF == 0b0_1011_1101 => Class::Pop,
+        // All but the condition and Rd: STR Rd, [SP, #-4]! and LDR Rd, [SP], #4.
+        Class::Str if word & 0x0FFF_0FFF == 0x052D_0004 => Class::Push,
+        Class::Ldr if word & 0x0FFF_0FFF == 0x049D_0004 => Class::Pop,
         _ => class,
     }
+}
+
+/// The register list of a block transfer (bits 27 to 25 are 100), or the one register of a push or a pop that is a single transfer.
+fn regs(word: u32) -> RegList {
+    if word >> 25 & 7 == 0b100 { RegList((word & 0xFFFF) as u16) } else { reg(word, 12).into() }
 }
 
 fn mov_name(op2: Op2) -> Class {
@@ -146,7 +154,7 @@ pub fn parse_arm(word: u32, address: u32) -> Ins {
     let cond = CONDS[(word >> 28) as usize];
     let (thumb, s) = (false, bit(word, 20));
     let (rd, rn) = (reg(word, 12), reg(word, 16));
-    let regs = RegList((word & 0xFFFF) as u16);
+    let regs = regs(word);
     let (writeback, user_mode) = (bit(word, 21), bit(word, 22));
     match class {
         Class::Add => Ins::Add { s, thumb, cond, rd, rn, op2: op2(word) },

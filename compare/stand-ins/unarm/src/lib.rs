@@ -7,7 +7,7 @@ mod parser;
 mod registers;
 pub mod sets;
 
-pub use class::Class;
+pub use class::{Class, encoding};
 pub use decode::{class_of, parse_arm};
 pub use parser::{ParseEndian, ParseMode, Parser, parse_thumb};
 pub use registers::{Reg, RegList, Registers};
@@ -211,7 +211,7 @@ impl Ins {
         format!("{self:?}")
     }
 
-    /// Block transfers give one list, all others register by register.
+    /// Block transfers, pushes and pops give one list, all others register by register.
     fn arguments(&self, set: RegList, block: bool) -> Arguments {
         match block {
             true => Arguments { list: Some(set), registers: RegList(0).iter() },

@@ -1,4 +1,4 @@
-//! The registers that a word's instruction reads and writes, and whether it sets condition flags: `crates/regsets/src/sets.rt`,
+//! The registers that a word's instruction reads and writes, and whether it sets condition flags: `sets.rt` of `crates/regsets`,
 //! function by function. Then the same from the operands of an `Ins`; `words check` compares the two for every word.
 use crate::{AddrLdrStr, AddrMiscLoad, BlxTarget, Class, Ins, LdrStrOffset, MiscLoadOffset, Op2, Op2Shift, Reg, RegList};
 

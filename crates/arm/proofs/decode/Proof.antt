@@ -35,8 +35,8 @@ addr-requires c κs = search needs
 mode-requires : tie.Need-mode-requires
 mode-requires c κs = search needs
 
-cast-t23 : tie.Need-cast-t23
-cast-t23 c = search needs
+regs-requires : tie.Need-regs-requires
+regs-requires c κs = search needs
 
 target-requires : tie.Need-target-requires
 target-requires c κs = search needs
@@ -68,7 +68,7 @@ decode-spec =
     op2-requires
     addr-requires
     mode-requires
-    cast-t23
+    regs-requires
     target-requires
     uses-requires
     defs-requires

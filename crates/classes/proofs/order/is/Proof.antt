@@ -1,9 +1,9 @@
--- `Ins::is` meets its contract: classes are equal where their numbers are.
+-- `is` meets its contract: classes are equal where their numbers are.
 use mathlib.Core.Path.{ap₂}
 use lib.Dec.{eqb}
 use borrow.Author.Needs.{needs}
-use Rattle.arm.proofs.Ins.is.Statement.{statement}
-use Rattle.arm.proofs.Ins.is.Tie as tie
+use Rattle.classes.proofs.order.is.Statement.{statement}
+use Rattle.classes.proofs.order.is.Tie as tie
 
 number-requires : tie.Need-number-requires
 number-requires c κs = search needs
