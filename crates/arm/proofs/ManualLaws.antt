@@ -16,15 +16,14 @@ use Rattle.classes.specs.declared.Op2.{Op2}
 use Rattle.classes.specs.declared.Op2.the-variants.{Imm, ShiftImm, ShiftReg}
 use Rattle.classes.specs.Class.{classNo, is}
 use Rattle.encodings.specs.Diagram
-use Rattle.encodings.specs.Diagram.{Encoding, fits, fitting, firstOr, bits, view, unconditional}
+use Rattle.encodings.specs.Diagram.{Encoding, fits, fitting, firstOr, bits, view}
 use Rattle.encodings.specs.Encodings.{encodings, undefineds, encodingOn, encodingOf}
-use Rattle.encodings.specs.Deciding.{viewAt}
 use Rattle.arm.specs.Naming.{shiftName, movName, stmName, ldmName, strName, ldrName, nameOf, classOf}
 use Rattle.modes.specs.Operands.{op2Of}
 use Rattle.arm.specs.Manual.{Fits, Undefined, OfManual, Added, Named, Left, by-diagram, by-text, by-absence}
 use Rattle.classes.proofs.Numbers.{same-number}
-use Rattle.encodings.proofs.Reduce.{encodings-decided, unconditional-below}
-use Rattle.encodings.proofs.Sweep.{steps, steps-fit, and, and-left, and-right, every, every-at, rest}
+use Rattle.encodings.proofs.Alike.{alike, all-alike, alike-word}
+use Rattle.encodings.proofs.Sweep.{and, and-left, and-right, every}
 
 -- ---- every diagram has a column for the condition and one for each of bits 27 to 0
 
@@ -41,39 +40,6 @@ unfolding undefineds Diagram.cond
 whole-undefineds = tt
 
 -- ---- at most one class fits
-
-abbrev alike : Class → List Class → Bool
-alike k [] = true
-alike k (c ∷ cs) = and (eqb (classNo c) (classNo k)) (alike k cs)
-
-abbrev all-alike : List Class → Bool
-all-alike [] = true
-all-alike (c ∷ cs) = alike c cs
-
-alike-cells : ℕ → ℕ → Bool
-unfolding bits encodings fitting fits Diagram.cond Diagram.uncond classNo
-alike-cells nv op =
-    let es = steps (nv ∷ bits 8 op) encodings in
-    every 2 0 (λ odd. every 16 0 (λ low. all-alike (fitting es (rest odd low))))
-
-alike-everywhere : T (every 2 0 (λ nv. every 256 0 (alike-cells nv)))
-unfolding alike-cells
-alike-everywhere = tt
-
-alike-at : (nv op odd low : ℕ) → nv < 2 → op < 256 → odd < 2 → low < 16 → T (all-alike (fitting encodings (viewAt nv op odd low)))
-unfolding alike-cells viewAt
-alike-at nv op odd low v o d l =
-    let es = steps (nv ∷ bits 8 op) encodings in
-    let half = every-at 2 0 (λ nv. every 256 0 (alike-cells nv)) alike-everywhere nv (omega arith) (omega arith) in
-    let row = every-at 256 0 (alike-cells nv) half op (omega arith) (omega arith) in
-    let col = every-at 2 0 (λ odd. every 16 0 (λ low. all-alike (fitting es (rest odd low)))) row odd (omega arith) (omega arith) in
-    let cell = every-at 16 0 (λ low. all-alike (fitting es (rest odd low))) col low (omega arith) (omega arith) in
-    subst (λ (cs : List Class). T (all-alike cs)) (sym (steps-fit (nv ∷ bits 8 op) (rest odd low) encodings)) cell
-
-alike-word : (w : ℕ) → T (all-alike (fitting encodings (view w)))
-alike-word w =
-    rw (encodings-decided w)
-    (alike-at (unconditional w) (w / 1048576 % 256) (w / 4096 % 2) (w / 16 % 16) (unconditional-below w) (omega arith) (omega arith) (omega arith))
 
 alike-member : (c k : Class) (cs : List Class) → T (alike c cs) → List·Memᴰ k cs → k ≡ c
 alike-member c k (d ∷ cs) t (List·Memᴰ·head e) = e ∙ same-number d c (and-left (eqb (classNo d) (classNo c)) (alike c cs) t)

@@ -1,11 +1,10 @@
 -- Exactly which words are Push and which are Pop, by their fields.
 use mathlib.Core.Path.{_≡_, refl, sym, ap, subst, _∙_}
 use mathlib.Core.Bool.{Bool, true, false, not}
-use mathlib.Core.List.{List, [], _∷_}
-use mathlib.Core.Logic.{_⊎_, inl, inr, ⊎-elim}
+use mathlib.Core.Logic.{_⊎_, inl, inr}
 use Prim.Native.Nat.{ℕ, _/_, _%_, _<_}
 use native.Mathlib.Omega.{arith}
-use borrow.Author.Tests.{eq-eqb, ne-eqb}
+use borrow.Author.Tests.{eq-eqb}
 use lib.Dec.{T, eqb, eqb→eq}
 use Rattle.classes.specs.declared.Class.{Class}
 use Rattle.classes.specs.declared.Class.the-variants.{Mov, Stm, Ldm, Str, Ldr, Push, Pop}
@@ -16,10 +15,9 @@ use Rattle.classes.specs.declared.Op2.the-variants.{Imm, ShiftImm, ShiftReg}
 use Rattle.classes.specs.Class.{classNo}
 use Rattle.encodings.specs.Diagram.{unconditional}
 use Rattle.encodings.specs.Encodings.{encodingOf}
-use Rattle.encodings.specs.Deciding.{encodingAt}
 use Rattle.modes.specs.Operands.{op2Of}
 use Rattle.arm.specs.Naming.{shiftName, movName, stmName, ldmName, strName, ldrName, nameOf, classOf}
-use Rattle.arm.specs.Manual.{StackWord, IsPush, IsPop}
+use Rattle.arm.specs.Manual.{IsPush, IsPop}
 use Rattle.encodings.proofs.Reduce.{reduced, unconditional-no, unconditional-yes, unconditional-below}
 use Rattle.encodings.proofs.Sweep.{passes, region, anywhere, everywhere, everywhere-at, and, and-left, and-right}
 use Rattle.arm.proofs.ManualLaws.{Rule, rule, by-mov, by-stm, by-ldm, by-str, by-ldr, by-none}

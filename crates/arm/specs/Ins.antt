@@ -13,7 +13,7 @@ use Rattle.arm.specs.Naming.{classOf, regsOf}
 abbrev pub isConditional : ℕ → Bool
 isConditional c = ltb c 14
 
--- the instruction that word w is at an address; sets and flag are those of the manual's instruction, whatever name 01 gives it
+-- the instruction that word w is at an address; sets and flag are those of the manual's instruction, whatever name the rules give it
 unfoldable pub decodeOf : ℕ → ℕ → Ins
 decodeOf w address =
     record {

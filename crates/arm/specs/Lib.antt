@@ -1,4 +1,4 @@
--- The decoder's definitions: document 01's naming rules, what the manual says of a class, and the decoded instruction.
+-- The decoder's definitions: the naming rules, what the manual says of a class, and the decoded instruction.
 pub mod Naming
 pub mod Manual
 pub mod Ins

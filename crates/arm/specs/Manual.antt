@@ -1,4 +1,4 @@
--- What the manual says of a word, as propositions. The theorems about them stand in proofs/ManualLaws.antt.
+-- What the manual and the naming rules say of a word, as propositions. The theorems about them stand in proofs/ManualLaws.antt and StackLaws.antt.
 use mathlib.Core.List.{List·Memᴰ}
 use mathlib.Core.Path.{_≡_}
 use mathlib.Core.Logic.{_⊎_}

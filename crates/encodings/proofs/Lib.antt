@@ -1,3 +1,4 @@
--- The fields that settle a word's encoding, and the test of every arm over its region of fields.
+-- The fields that settle a word's encoding, the test of every arm over its region of fields, and that no word has two classes.
 pub mod Reduce
 pub mod Sweep
+pub mod Alike

@@ -6,7 +6,7 @@
 -- + and - are as free as a letter.
 --
 -- Where a column differs from the printed bit, it is by judgement:
---   BKPT              the condition, printed 1110, is free: the page calls any other UNPREDICTABLE.
+--   BKPT              the condition, printed 1110, is free but for 1111: the page calls any other UNPREDICTABLE.
 --   LDM (2), STM (2)  bit 21, printed 0, is W: the pages call W = 1 UNPREDICTABLE. Bit 15, printed 0 in LDM (2) and 1 in LDM (3), belongs to
 --                     the list: both are LDM.
 --   PLD               bits 24 and 21, printed 1 and 0, are P and W. They are decode bits, whose other values would be UNDEFINED by the general
@@ -208,6 +208,6 @@ undefineds = cond Illegal "000 P U I W 0 nnnn ddd1 iiii 11x1 iiii" ∷ []
 unfoldable pub encodingOn : List ℕ → Class
 encodingOn v = firstOr (firstOr Illegal (fitting encodings v)) (fitting undefineds v)
 
--- the manual's class of a word, before document 01's naming rules
+-- the manual's class of a word, before the naming rules
 unfoldable pub encodingOf : ℕ → Class
 encodingOf w = encodingOn (view w)

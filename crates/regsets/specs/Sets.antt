@@ -19,6 +19,7 @@ use Rattle.classes.specs.declared.Form.the-variants.{LoadBlock, StoreBlock, Swa
 use Rattle.classes.specs.declared.Form.the-variants.{ToCoprocessor, FromCoprocessor, PairToCoprocessor, PairFromCoprocessor, Nothing}
 use Rattle.classes.specs.Fields.{bit, rnOf, rdOf, rsOf, rmOf}
 
+-- the form of an instruction's operands; it is asked of the manual's instruction, never of a name that the rules give
 unfoldable pub formOf : Class → Form
 formOf Adc = Compute
 formOf Add = Compute

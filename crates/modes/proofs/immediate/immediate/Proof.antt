@@ -1,4 +1,4 @@
--- `arm::immediate::immediate` meets its contract, by what `rotate_right` ensures. Assumes nothing.
+-- `modes::immediate::immediate` meets its contract, by what `rotate_right` ensures. Assumes nothing.
 use borrow.Author.Needs.{needs}
 use Rattle.modes.specs.Immediate.{immediate}
 use Rattle.modes.proofs.immediate.immediate.Statement.{statement}

@@ -1,4 +1,4 @@
--- `arm::immediate::rotate_right` meets its contract: a shift to each side, in 64 bits, gives the two parts. Assumes nothing.
+-- `modes::immediate::rotate_right` meets its contract: a shift to each side, in 64 bits, gives the two parts. Assumes nothing.
 use mathlib.Core.Path.{subst⁻¹}
 use native.Mathlib.Omega.{arith}
 use borrow.Author.Needs.{needs}

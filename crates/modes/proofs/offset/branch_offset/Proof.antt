@@ -1,4 +1,4 @@
--- `arm::offset::branch_offset` meets its contract: the two arms are the two cases of the two's complement reading.
+-- `modes::offset::branch_offset` meets its contract: the two arms are the two cases of the two's complement reading.
 -- Assumes nothing.
 use Prim.Native.Nat.{_%_}
 use mathlib.Core.Path.{_∙_, ap, sym}

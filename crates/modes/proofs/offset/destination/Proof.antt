@@ -1,4 +1,4 @@
--- `arm::offset::destination` meets its contract: the offset's bits lead to the same destination as the offset. Assumes nothing.
+-- `modes::offset::destination` meets its contract: the offset's bits lead to the same destination as the offset. Assumes nothing.
 use Prim.Native.Nat.{ℕ, _+_, _*_, _%_}
 use mathlib.Core.Path.{_∙_, ap, sym}
 use borrow.Author.Needs.{needs}

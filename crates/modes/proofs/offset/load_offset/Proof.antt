@@ -1,4 +1,4 @@
--- `arm::offset::load_offset` meets its contract: the two arms are the two values of bit 23.
+-- `modes::offset::load_offset` meets its contract: the two arms are the two values of bit 23.
 -- Assumes nothing.
 use Prim.Native.Nat.{_%_}
 use mathlib.Core.Path.{_∙_, ap, sym}

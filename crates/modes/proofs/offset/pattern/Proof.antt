@@ -1,4 +1,4 @@
--- `arm::offset::pattern` meets its contract: the bits of a negative number are those of -1 less the bits of -1 - z, and
+-- `modes::offset::pattern` meets its contract: the bits of a negative number are those of -1 less the bits of -1 - z, and
 -- those of any other number are the number. Assumes nothing.
 use Prim.Native.Nat.{_-_}
 use mathlib.Core.Path.{_∙_, ap, subst⁻¹}
