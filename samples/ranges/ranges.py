@@ -1,11 +1,12 @@
 #!/usr/bin/env python3
-"""Branch destinations and load offsets at both ends of their ranges, by document 01's rules.
+"""Branch destinations and load offsets at both ends of their ranges, and immediates at each rotation, by document 01's rules.
 
 Makes crates/ranges/stdin (records of word and address, four bytes each, big-endian) and crates/ranges/stdout (word, address, destination,
-load offset as 32 bits, in hexadecimal). The rules are written out below from the document, over Python's integers:
+load offset as 32 bits, immediate operand, in hexadecimal). The rules are written out below from the document, over Python's integers:
 
   a branch adds address + 8 and the signed 24-bit offset times 4, modulo 2^32; BLX with an immediate adds 2 more where bit 24 is set;
-  a load or store with an immediate has bits 11 to 0, subtracted where bit 23 is clear.
+  a load or store with an immediate has bits 11 to 0, subtracted where bit 23 is clear;
+  an immediate operand is eight bits rotated right by twice the four-bit field.
 """
 
 import os
@@ -21,6 +22,9 @@ BRANCHES = [kind << 24 | offset
 LOADS = [top << 16 | 0x0000 | offset
          for top in (0xE59F, 0xE51F, 0xE5BF, 0xE53F, 0xE49F, 0xE41F, 0xE58D, 0xE50D, 0xE5DF, 0xE55F)
          for offset in (0x000, 0x001, 0x004, 0x7FF, 0x800, 0xFFE, 0xFFF)]
+
+# MOV with each rotation: all eight bits, and the lowest alone
+IMMEDIATES = [0xE3A00000 | field << 8 | eight for field in range(16) for eight in (0xFF, 0x01)]
 
 
 def destination(word, address):
@@ -38,14 +42,22 @@ def load_offset(word):
     return (offset if word >> 23 & 1 else -offset) % 2**32
 
 
+def immediate(word):
+    if not word >> 25 & 1:
+        return 0
+    bits = f"{word & 0xFF:032b}"
+    turn = 2 * (word >> 8 & 15)
+    return int(bits[32 - turn:] + bits[:32 - turn], 2)
+
+
 def main():
     here = os.path.dirname(os.path.abspath(__file__))
-    records = [(word, address) for word in BRANCHES for address in ADDRESSES] + [(word, 0x02000000) for word in LOADS]
+    records = [(word, address) for word in BRANCHES for address in ADDRESSES] + [(word, 0x02000000) for word in LOADS + IMMEDIATES]
     with open(os.path.join(here, "../../crates/ranges/stdin"), "wb") as file:
         file.write(b"".join(number.to_bytes(4, "big") for record in records for number in record))
     with open(os.path.join(here, "../../crates/ranges/stdout"), "w") as file:
         for word, address in records:
-            file.write(f"{word:08x} {address:08x} {destination(word, address):08x} {load_offset(word):08x}\n")
+            file.write(f"{word:08x} {address:08x} {destination(word, address):08x} {load_offset(word):08x} {immediate(word):08x}\n")
     print(len(records), "records")
 
 

@@ -42,7 +42,7 @@ use Rattle.registers.specs.Registers.{cleared as registers-cleared, forgotten, 
 use Rattle.classes.specs.Class.{classNo}
 use Rattle.encodings.specs.Diagram.{column, columns, cond, uncond, bits, unconditional, view, fits, fitting, firstOr}
 use Rattle.encodings.specs.Encodings.{encodings, undefineds, encodingOn, encodingOf}
-use Rattle.modes.specs.Immediate.{rotateRight, immediate}
+use Rattle.modes.specs.Immediate.{rotations, immediate}
 use Rattle.arm.specs.Ins.{decodeOf}
 use Rattle.arm.specs.Naming.{shiftName, movName, stmName, ldmName, strName, ldrName, nameOf, classOf, isOfOne, regsOf}
 use Rattle.modes.specs.Offset.{signed, modulo, branchOffset, loadOffset, destination}
@@ -52,7 +52,7 @@ use Rattle.marked.specs.Marked.{Marked, run, table, bytes, optionsOf, st
 
 -- what a run computes with
 unfoldable calls : Unit {0}
-unfolding given expected bytes steps ran begin settled numberAt step finish isWindow isInCode beginNo inOrders isWhole areWhole areHeld arePools stepNo shiftIn room decided planned storedBy stored planFor countAfter rising ascending zeros cleared allCleared inOrder halve place heldAt held firstKey lastKey padded insertAt gapBy gapFrom firstGap tableEnd holds tableAt dataAt isAmong labelAt withMore lookedUp firstWord wordFrom asksNext isEntryAt isEntryNext poolWord seen countsFor endedAt refusedAt noEpilogue countedTo afterApplied lookedAt changed walkedWord walked allZero noCounts mark-set labelsCounted poolsCounted jumpTablesCounted inlineTablesCounted callsCounted listsAfter appliedBy jumped inlined advanced signsOf shapeOf isChecked definedBefore undefinedRegister definedBy definedAfter inProgram stopOf inConditionalBlock isLongBranchDestination endsAtReturn enters inModule isOtherFunction branchFlow flowOf flowAt onwardOf missesPool lateStop goOn editBefore editAfter walk-decided markOf tailCall poolEdit handleCode handleIns registersAfter goneTo skippedPast begun startOf intoFunction raisedByLongBranch raisesLabel conditionalAfter lastPoolAfter progressAfter skippedTo isEntryInstruction isPoolLoad poolFrom poolAddress isMovPc isLdmPc isPopPc isBranchBack isSubsPcLr isLdrPc isEorPc isAddPc isReturnAlways isAddsFour isReturnAfter isReturn isNop isPush isStackStore asPrevious calledBy movgePcLr movFromSp ldrIpPc addR0Ip atStart afterEors beforeBranch afterLdr isShift dereferenced offsetByItself readsPcIntoPc illegalCode tableAddress subFrom subPcOf isTableLoad tableMade checkStart compared isJump found jumpOrBranch isZeroLimit signedBaseline jumpAt validTable jumpTable endOf registers-cleared forgotten holding sourceOf missingFrom classNo column columns cond uncond bits unconditional view fits fitting firstOr encodings undefineds encodingOn encodingOf rotateRight immediate decodeOf shiftName movName stmName ldmName strName ldrName nameOf classOf isOfOne regsOf signed modulo branchOffset loadOffset destination shiftOf zeroShiftOf zeroAmountOf shiftImmOf shiftAmountOf op2Of offsetOf addrOf modeOf extraOf targetOf formOf ifBit shifterSet offset2Set offset3Set writtenBackSet indexedSet statusSourceSet coprocessorResultSet usesOf defsOf restores writesFlags flagsOf
+unfolding given expected bytes steps ran begin settled numberAt step finish isWindow isInCode beginNo inOrders isWhole areWhole areHeld arePools stepNo shiftIn room decided planned storedBy stored planFor countAfter rising ascending zeros cleared allCleared inOrder halve place heldAt held firstKey lastKey padded insertAt gapBy gapFrom firstGap tableEnd holds tableAt dataAt isAmong labelAt withMore lookedUp firstWord wordFrom asksNext isEntryAt isEntryNext poolWord seen countsFor endedAt refusedAt noEpilogue countedTo afterApplied lookedAt changed walkedWord walked allZero noCounts mark-set labelsCounted poolsCounted jumpTablesCounted inlineTablesCounted callsCounted listsAfter appliedBy jumped inlined advanced signsOf shapeOf isChecked definedBefore undefinedRegister definedBy definedAfter inProgram stopOf inConditionalBlock isLongBranchDestination endsAtReturn enters inModule isOtherFunction branchFlow flowOf flowAt onwardOf missesPool lateStop goOn editBefore editAfter walk-decided markOf tailCall poolEdit handleCode handleIns registersAfter goneTo skippedPast begun startOf intoFunction raisedByLongBranch raisesLabel conditionalAfter lastPoolAfter progressAfter skippedTo isEntryInstruction isPoolLoad poolFrom poolAddress isMovPc isLdmPc isPopPc isBranchBack isSubsPcLr isLdrPc isEorPc isAddPc isReturnAlways isAddsFour isReturnAfter isReturn isNop isPush isStackStore asPrevious calledBy movgePcLr movFromSp ldrIpPc addR0Ip atStart afterEors beforeBranch afterLdr isShift dereferenced offsetByItself readsPcIntoPc illegalCode tableAddress subFrom subPcOf isTableLoad tableMade checkStart compared isJump found jumpOrBranch isZeroLimit signedBaseline jumpAt validTable jumpTable endOf registers-cleared forgotten holding sourceOf missingFrom classNo column columns cond uncond bits unconditional view fits fitting firstOr encodings undefineds encodingOn encodingOf rotations immediate decodeOf shiftName movName stmName ldmName strName ldrName nameOf classOf isOfOne regsOf signed modulo branchOffset loadOffset destination shiftOf zeroShiftOf zeroAmountOf shiftImmOf shiftAmountOf op2Of offsetOf addrOf modeOf extraOf targetOf formOf ifBit shifterSet offset2Set offset3Set writtenBackSet indexedSet statusSourceSet coprocessorResultSet usesOf defsOf restores writesFlags flagsOf
 calls = tt
 
 -- a run by its place in the table

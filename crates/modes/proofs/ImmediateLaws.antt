@@ -1,15 +1,17 @@
--- Laws of a rotated word: its range, the shifts that make it, and each of its bits. Assumes nothing.
-use Prim.Native.Nat.{ℕ, _+_, _-_, _*_, _/_, _%_, _^_, _<_, _≤_}
+-- Laws of a rotated word: its range and each of its bits; and that an immediate is one. Assumes nothing.
+use Prim.Native.Nat.{ℕ, zero, suc, _+_, _-_, _*_, _/_, _%_, _^_, _<_, _≤_}
 use mathlib.Core.Bool.{Bool, true, false}
+use mathlib.Core.Logic.{⊎-elim}
 use mathlib.Core.Path.{_≡_, refl, sym, ap, _∙_, subst}
-use native.Mathlib.Nat.{add-comm, mul-assoc, mod-lt, mul-add-div-right, mul-add-mod-self-right, mul-div-cancel, mul-mod-left, add-zero}
+use native.Mathlib.Nat.{eq-or-lt-of-le, add-comm, mul-assoc, mod-lt, mul-add-div-right, mul-add-mod-self-right}
 use native.Mathlib.Omega.{arith}
 use borrow.Author.Tests.{ltb-true, ltb-false}
-use lib.Arith.{digits-lt, mod-mul}
+use lib.Arith.{digits-lt}
 use lib.Dec.{ltb}
+use lib.ListN.{getD}
 use lib.Pow as Pow
 use lib.Pow.{pow-add, pow-pos, shr-lt, shr-shr, mod-mod-pow}
-use Rattle.modes.specs.Immediate.{rotateRight, immediate}
+use Rattle.modes.specs.Immediate.{rotateRight, rotations, immediate}
 
 -- the two parts of a word that is cut after its lowest n bits
 word : (n : ℕ) → n ≤ 32 → 2 ^ 32 ≡ 2 ^ n * 2 ^ (32 - n)
@@ -27,20 +29,6 @@ unfolding rotateRight
 rotated-below n v h hv =
     let k : v % 2 ^ n * 2 ^ (32 - n) + v / 2 ^ n < 2 ^ n * 2 ^ (32 - n) = digits-lt (mod-lt v (pow-pos n)) (high-short n v h hv) in
     omega (arith, word n h)
-
--- ---- by shifts
-
--- what a shift to the left by 32 - n leaves of v in 32 bits: its lowest n bits
-up : (n v : ℕ) → n ≤ 32 → v * 2 ^ (32 - n) % 2 ^ 32 ≡ v % 2 ^ n * 2 ^ (32 - n)
-up n v h =
-    let c = 2 ^ (32 - n) in
-    ap (λ (m : ℕ). v * c % m) (word n h) ∙ mod-mul (v * c) (pow-pos n) (pow-pos (32 - n))
-    ∙ ap (λ (x : ℕ). x % 2 ^ n * c + v * c % c) (mul-div-cancel v (pow-pos (32 - n)))
-    ∙ ap (λ (x : ℕ). v % 2 ^ n * c + x) (mul-mod-left v c) ∙ add-zero (v % 2 ^ n * c)
-
-pub by-shifts : (n v : ℕ) → n ≤ 32 → v / 2 ^ n + v * 2 ^ (32 - n) % 2 ^ 64 % 2 ^ 32 ≡ rotateRight n v
-unfolding rotateRight
-by-shifts n v h = ap (λ (x : ℕ). v / 2 ^ n + x) (mod-mod-pow (v * 2 ^ (32 - n)) 32 32 ∙ up n v h)
 
 -- ---- bit by bit
 
@@ -83,17 +71,50 @@ rotated-by n v i hn hv hi false e =
 pub rotated : (n v i : ℕ) → n < 32 → v < 2 ^ 32 → i < 32 → rotateRight n v / 2 ^ i % 2 ≡ v / 2 ^ ((i + n) % 32) % 2
 rotated n v i hn hv hi = rotated-by n v i hn hv hi (ltb i (32 - n)) refl
 
-pub immediate-rotated : (w i : ℕ) → i < 32 → immediate w / 2 ^ i % 2 ≡ w % 256 / 2 ^ ((i + 2 * (w / 256 % 16)) % 32) % 2
+-- ---- the sixteen cases
+
+-- a fact of each number below n
+abbrev Below : (ℕ → Type 0) → ℕ → Type 0
+Below P zero = Unit {0}
+Below P (suc n) = Below P n × P n
+
+each : (P : ℕ → Type 0) (n : ℕ) → Below P n → (k : ℕ) → k < n → P k
+each P zero h k l = absurd (omega arith)
+each P (suc n) h k l =
+    ⊎-elim (λ (e : k ≡ n). subst (λ (j : ℕ). P j) (sym e) (h .1)) (λ (m : k < n). each P n (h .0) k m) (eq-or-lt-of-le {m = n} (omega arith))
+
+-- each case is the eight bits rotated right by twice its field
+pub by-field : (v : ℕ) → v < 256 → (k : ℕ) → k < 16 → getD (rotations v) k 0 ≡ rotateRight (2 * k) v
+unfolding rotations rotateRight
+by-field v h k l =
+    each (λ (k : ℕ). getD (rotations v) k 0 ≡ rotateRight (2 * k) v) 16
+    ((((((((((((((((tt, omega arith), omega arith), omega arith), omega arith), omega arith), omega arith), omega arith), omega arith), omega arith), omega arith), omega arith), omega arith), omega arith), omega arith), omega arith), omega arith)
+    k l
+
+-- the case of a word's field
+pub at-field : (w k : ℕ) → w / 256 % 16 ≡ k → getD (rotations (w % 256)) k 0 ≡ immediate w
 unfolding immediate
-immediate-rotated w i h = rotated (2 * (w / 256 % 16)) (w % 256) i (omega arith) (omega arith) h
+at-field w k e = ap (λ (j : ℕ). getD (rotations (w % 256)) j 0) (sym e)
+
+-- no field is left beside the sixteen
+pub none-left : (w : ℕ) → Below (λ (k : ℕ). w / 256 % 16 ≡ k → ⊥) 16 → ⊥
+none-left w h = each (λ (k : ℕ). w / 256 % 16 ≡ k → ⊥) 16 h (w / 256 % 16) (omega arith) refl
+
+pub immediate-rotates : (w : ℕ) → immediate w ≡ rotateRight (2 * (w / 256 % 16)) (w % 256)
+unfolding immediate
+immediate-rotates w = by-field (w % 256) (omega arith) (w / 256 % 16) (omega arith)
+
+pub immediate-rotated : (w i : ℕ) → i < 32 → immediate w / 2 ^ i % 2 ≡ w % 256 / 2 ^ ((i + 2 * (w / 256 % 16)) % 32) % 2
+immediate-rotated w i h =
+    ap (λ (x : ℕ). x / 2 ^ i % 2) (immediate-rotates w) ∙ rotated (2 * (w / 256 % 16)) (w % 256) i (omega arith) (omega arith) h
 
 -- ---- instructions
 
 -- `mov r0, #0xFF`, which is not rotated, and `mov r0, #0xFF000000`
 moved-low : immediate 0xE3A0_00FF ≡ 0xFF
-unfolding immediate rotateRight
+unfolding immediate rotations
 moved-low = refl
 
 moved-high : immediate 0xE3A0_04FF ≡ 0xFF00_0000
-unfolding immediate rotateRight
+unfolding immediate rotations
 moved-high = refl

@@ -1,7 +1,8 @@
 // Reads records of a word and its address, four bytes each, big-endian, and writes for each: the word, the address, where a branch with
-// that word goes, and its immediate load or store offset as 32 bits. The offset of a word with a register offset is written as 0.
+// that word goes, its immediate load or store offset as 32 bits, and its immediate operand. A register in their place is written as 0.
 use classes::AddrLdrStr;
 use classes::LdrStrOffset;
+use classes::Op2;
 ghost use Prim.Native.Nat.{_+_, _≤_};
 ghost use lib.ListN.{length};
 
@@ -43,16 +44,34 @@ fn load_offset(addr: AddrLdrStr) -> u32 {
     }
 }
 
-// One line of 36 bytes.
+fn immediate(op2: Op2) -> u32 {
+    match op2 {
+        Op2::Imm(v) => v,
+        Op2::ShiftImm {
+            rm: _,
+            shift_op: _,
+            imm: _,
+        } => 0,
+        Op2::ShiftReg {
+            rm: _,
+            shift_op: _,
+            rs: _,
+        } => 0,
+    }
+}
+
+// One line of 45 bytes.
 fn put_record(line: &mut [u8], word: u32, address: u32)
-    requires { ⌜ 36 ≤ length (now line) ⌝ }
+    requires { ⌜ 45 ≤ length (now line) ⌝ }
 {
     let ins = arm::decode(word, address);
     let addr = ins.addr;
+    let op2 = ins.op2;
     text::put_hex(line, 0, 8, word);
     text::put_hex(line, 9, 8, address);
     text::put_hex(line, 18, 8, ins.target);
     text::put_hex(line, 27, 8, load_offset(addr));
+    text::put_hex(line, 36, 8, immediate(op2));
 }
 
 fn main() {
@@ -60,7 +79,7 @@ fn main() {
     let n = io::read_full(0, &mut input);
     let mut i = 0;
     while 8 <= n - i {
-        let mut line = *b"                                   \n";
+        let mut line = *b"                                            \n";
         put_record(&mut line, number(&input, i), number(&input, i + 4));
         io::write_all(1, &line);
         i += 8;

@@ -2,7 +2,7 @@
 //! that the two decoders can be compared. `words check` compares the stand-in's two readings of every word.
 use std::io::{self, BufWriter, Read, Write};
 
-use unarm::{AddrLdrStr, BlxTarget, Class, Ins, LdrStrOffset, class_of, encoding, parse_arm, sets};
+use unarm::{AddrLdrStr, BlxTarget, Class, Ins, LdrStrOffset, Op2, class_of, encoding, parse_arm, sets};
 
 const CONDS: [&str; 16] = ["eq", "ne", "cs", "cc", "mi", "pl", "vs", "vc", "hi", "ls", "ge", "lt", "gt", "le", "al", "nv"];
 
@@ -16,7 +16,9 @@ fn main() -> io::Result<()> {
             writeln!(out, "{:08x} {} {cond} {:04x} {:04x} {flag}", n[0], name(n[0]), ins.used().0, ins.defined().0)
         }),
         "classes" => lines(4, |out, n| writeln!(out, "{:08x} {}", n[0], name(n[0]))),
-        "ranges" => lines(8, |out, n| writeln!(out, "{:08x} {:08x} {:08x} {:08x}", n[0], n[1], target(n[0], n[1]), offset(n[0]))),
+        "ranges" => lines(8, |out, n| {
+            writeln!(out, "{:08x} {:08x} {:08x} {:08x} {:08x}", n[0], n[1], target(n[0], n[1]), offset(n[0]), immediate(n[0]))
+        }),
         "check" => {
             check();
             Ok(())
@@ -59,6 +61,17 @@ fn offset(word: u32) -> u32 {
     match parse_arm(load, 0) {
         Ins::Ldr { addr: AddrLdrStr::Pre { offset: LdrStrOffset::Imm(offset), .. }, .. } => offset as u32,
         _ => unreachable!("a load"),
+    }
+}
+
+/// The immediate operand of these bits, likewise.
+fn immediate(word: u32) -> u32 {
+    if word >> 25 & 1 == 0 {
+        return 0;
+    }
+    match parse_arm(0xE280_0000 | word & 0xFFF, 0) {
+        Ins::Add { op2: Op2::Imm(operand), .. } => operand.imm,
+        _ => unreachable!("an addition"),
     }
 }
 
