@@ -2,9 +2,12 @@
 use mathlib.Core.Path.{_≡_, refl, ap, _∙_, sym}
 use mathlib.Core.List.{List, [], _∷_, map}
 use mathlib.Core.Logic.{inl, inr}
-use Prim.Native.Nat.{ℕ}
-use lib.ListN.{getD}
-use lib.Dec.{T, eqb, eqb→eq}
+use Prim.Native.Nat.{ℕ, zero, suc, _<_, _≤_}
+use mathlib.Core.Bool.{Bool, true, false}
+use native.Mathlib.Omega.{arith}
+use borrow.Author.Tests.{ltb-true, ltb-false}
+use lib.ListN.{length, getD}
+use lib.Dec.{T, ltb, eqb, eqb→eq}
 use types.Run.{OneOf}
 use denote.Enum.Declared.{tagOf}
 use Rattle.classes.specs.declared.Class.{Class}
@@ -24,10 +27,13 @@ use Rattle.classes.specs.Class.{classNo}
 use Rattle.classes.proofs.Class as ClassType
 use Rattle.classes.proofs.Form as FormType
 
+-- the classes, each at its number
+abbrev pub classes : List Class
+classes =
+    Adc ∷ Add ∷ And ∷ B ∷ Bic ∷ Bkpt ∷ Bl ∷ Blx1 ∷ Blx2 ∷ Bx ∷ Cdp ∷ Clz ∷ Cmn ∷ Cmp ∷ Eor ∷ Ldc ∷ Ldm ∷ Ldr ∷ Ldrb ∷ Ldrbt ∷ Ldrd ∷ Ldrh ∷ Ldrsb ∷ Ldrsh ∷ Ldrt ∷ Mcr ∷ Mcrr ∷ Mla ∷ Mov ∷ Mrc ∷ Mrrc ∷ Mrs ∷ Msr ∷ Mul ∷ Mvn ∷ Orr ∷ Pld ∷ Qadd ∷ Qdadd ∷ Qdsub ∷ Qsub ∷ Rsb ∷ Rsc ∷ Sbc ∷ Smlal ∷ Smlalxy ∷ Smlawy ∷ Smlaxy ∷ Smull ∷ Smulwy ∷ Smulxy ∷ Stc ∷ Stm ∷ Str ∷ Strb ∷ Strbt ∷ Strd ∷ Strh ∷ Strt ∷ Sub ∷ Swi ∷ Swp ∷ Swpb ∷ Teq ∷ Tst ∷ Umlal ∷ Umull ∷ Push ∷ Pop ∷ Lsl ∷ Lsr ∷ Asr ∷ Ror ∷ Illegal ∷ []
+
 abbrev pub classAt : ℕ → Class
-classAt n =
-    getD (
-    Adc ∷ Add ∷ And ∷ B ∷ Bic ∷ Bkpt ∷ Bl ∷ Blx1 ∷ Blx2 ∷ Bx ∷ Cdp ∷ Clz ∷ Cmn ∷ Cmp ∷ Eor ∷ Ldc ∷ Ldm ∷ Ldr ∷ Ldrb ∷ Ldrbt ∷ Ldrd ∷ Ldrh ∷ Ldrsb ∷ Ldrsh ∷ Ldrt ∷ Mcr ∷ Mcrr ∷ Mla ∷ Mov ∷ Mrc ∷ Mrrc ∷ Mrs ∷ Msr ∷ Mul ∷ Mvn ∷ Orr ∷ Pld ∷ Qadd ∷ Qdadd ∷ Qdsub ∷ Qsub ∷ Rsb ∷ Rsc ∷ Sbc ∷ Smlal ∷ Smlalxy ∷ Smlawy ∷ Smlaxy ∷ Smull ∷ Smulwy ∷ Smulxy ∷ Stc ∷ Stm ∷ Str ∷ Strb ∷ Strbt ∷ Strd ∷ Strh ∷ Strt ∷ Sub ∷ Swi ∷ Swp ∷ Swpb ∷ Teq ∷ Tst ∷ Umlal ∷ Umull ∷ Push ∷ Pop ∷ Lsl ∷ Lsr ∷ Asr ∷ Ror ∷ Illegal ∷ []) n Illegal
+classAt n = getD classes n Illegal
 
 abbrev pub formAt : ℕ → Form
 formAt n =
@@ -190,6 +196,24 @@ tag-no Lsr = refl
 tag-no Asr = refl
 tag-no Ror = refl
 tag-no Illegal = refl
+
+past : {A : Type 0} (l : List A) (n : ℕ) (d : A) → length l ≤ n → getD l n d ≡ d
+past [] n d h = refl
+past (x ∷ l) zero d h = absurd (omega arith)
+past (x ∷ l) (suc n) d h = past l n d (omega arith)
+
+pub class-below : (k : Class) → classNo k < 74
+unfolding classNo
+class-below k = go (ltb (classNo k) 74) refl
+  where
+    none : 74 ≤ classNo k → ⊥
+    none g =
+        let n : 73 ≡ classNo k = ap classNo (sym (past classes (classNo k) Illegal g) ∙ numbered k) in
+        omega arith
+
+    go : (b : Bool) → ltb (classNo k) 74 ≡ b → classNo k < 74
+    go true e = ltb-true (classNo k) 74 e
+    go false e = absurd (none (ltb-false (classNo k) 74 e))
 
 pub class-tag : (k : Class) → classAt (tagOf ClassType.the-type k) ≡ k
 class-tag k = ap classAt (tag-no k) ∙ numbered k

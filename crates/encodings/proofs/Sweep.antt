@@ -102,7 +102,7 @@ every-at (suc n) a p t x h l =
     (λ (g : a < x). every-at n (suc a) p (and-right (p a) (every n (suc a) p) t) x g (omega arith)) (eq-or-lt-of-le h)
 
 -- the class where the encodings have been narrowed to those that take the first columns
-abbrev narrowed : List Encoding → List Encoding → List ℕ → Class
+abbrev pub narrowed : List Encoding → List Encoding → List ℕ → Class
 narrowed es us v = firstOr (firstOr Illegal (fitting es v)) (fitting us v)
 
 -- the columns after bit 20
@@ -127,7 +127,7 @@ passes nv a n r k = every n a (λ op. rows r k op (steps (nv ∷ bits 8 op) enco
 abbrev pub In : ℕ → ℕ → Region → ℕ → ℕ → ℕ → Type 0
 In a n r op odd low = (a ≤ op) × ((op < a + n) × ((odd < 2) × ((low < 16) × Inside (r op odd low))))
 
-narrowed-view : (nv op odd low : ℕ) → encodingAt nv op odd low ≡ narrowed (steps (nv ∷ bits 8 op) encodings) (steps (nv ∷ bits 8 op) undefineds) (rest odd low)
+pub narrowed-view : (nv op odd low : ℕ) → encodingAt nv op odd low ≡ narrowed (steps (nv ∷ bits 8 op) encodings) (steps (nv ∷ bits 8 op) undefineds) (rest odd low)
 unfolding encodingAt encodingOn viewAt
 narrowed-view nv op odd low =
     rw (steps-fit (nv ∷ bits 8 op) (rest odd low) encodings, steps-fit (nv ∷ bits 8 op) (rest odd low) undefineds)

@@ -44,6 +44,6 @@ rotations v =
     ∷ (v * 2 ^ 2)
     ∷ []
 
--- bits 7 to 0, rotated by twice the field in bits 11 to 8
+-- bits 7 to 0, rotated right by twice the field in bits 11 to 8
 unfoldable pub immediate : ℕ → ℕ
 immediate w = getD (rotations (w % 256)) (w / 256 % 16) 0

@@ -1,5 +1,4 @@
 -- `modes::immediate::immediate` meets its contract.
-use native.Mathlib.Omega.{arith}
 use Rattle.modes.specs.Immediate.{rotations}
 use Rattle.modes.proofs.ImmediateLaws.{at-field, none-left}
 use borrow.Author.Needs.{needs}

@@ -1,0 +1,2 @@
+-- The census as text.
+pub mod Text

@@ -1,0 +1,93 @@
+// The census of instruction words as text.
+use words::Answer;
+ghost use Rattle.words.specs.Answer.{Answered};
+ghost use Rattle.census_text.specs.Text.{censusText};
+
+// A line for each class: its name, and how many words it has under the conditions 1110 and 1111 and under the others.
+pub fn census_text(out: &mut [u8]) -> Answer
+    ensures { λ r. ⌜ Answered censusText 1534 (now (out .entry)) r (now (out .exit)) ⌝ }
+{
+    if out.len() < 1534 {
+        return Answer::NoRoom;
+    }
+    Answer::Text(text::put_bytes(
+        out,
+        0,
+        b"\
+    ADC 3670016 51380224\n\
+    ADD 3670016 51380224\n\
+    AND 3670016 51380224\n\
+    B 16777216 234881024\n\
+    BIC 3670016 51380224\n\
+    BKPT 65536 917504\n\
+    BL 16777216 234881024\n\
+    BLX1 33554432 0\n\
+    BLX2 65536 917504\n\
+    BX 65536 917504\n\
+    CDP 16777216 117440512\n\
+    CLZ 65536 917504\n\
+    CMN 1835008 25690112\n\
+    CMP 1835008 25690112\n\
+    EOR 3670016 51380224\n\
+    LDC 29360128 205520896\n\
+    LDM 16711680 233963520\n\
+    LDR 9437168 132120352\n\
+    LDRB 9437184 132120576\n\
+    LDRBT 3145728 44040192\n\
+    LDRD 524288 7340032\n\
+    LDRH 1048576 14680064\n\
+    LDRSB 1048576 14680064\n\
+    LDRSH 1048576 14680064\n\
+    LDRT 3145728 44040192\n\
+    MCR 8388608 58720256\n\
+    MCRR 1048576 14680064\n\
+    MLA 131072 1835008\n\
+    MOV 2113536 29589504\n\
+    MRC 8388608 58720256\n\
+    MRRC 1048576 14680064\n\
+    MRS 131072 1835008\n\
+    MSR 2228224 31195136\n\
+    MUL 131072 1835008\n\
+    MVN 3670016 51380224\n\
+    ORR 3670016 51380224\n\
+    PLD 12582912 0\n\
+    QADD 65536 917504\n\
+    QDADD 65536 917504\n\
+    QDSUB 65536 917504\n\
+    QSUB 65536 917504\n\
+    RSB 3670016 51380224\n\
+    RSC 3670016 51380224\n\
+    SBC 3670016 51380224\n\
+    SMLAL 131072 1835008\n\
+    SMLALXY 262144 3670016\n\
+    SMLAWY 131072 1835008\n\
+    SMLAXY 262144 3670016\n\
+    SMULL 131072 1835008\n\
+    SMULWY 131072 1835008\n\
+    SMULXY 262144 3670016\n\
+    STC 29360128 205520896\n\
+    STM 16711680 233963520\n\
+    STR 9437168 132120352\n\
+    STRB 9437184 132120576\n\
+    STRBT 3145728 44040192\n\
+    STRD 524288 7340032\n\
+    STRH 1048576 14680064\n\
+    STRT 3145728 44040192\n\
+    SUB 3670016 51380224\n\
+    SWI 16777216 234881024\n\
+    SWP 65536 917504\n\
+    SWPB 65536 917504\n\
+    TEQ 1835008 25690112\n\
+    TST 1835008 25690112\n\
+    UMLAL 131072 1835008\n\
+    UMULL 131072 1835008\n\
+    PUSH 65552 917728\n\
+    POP 65552 917728\n\
+    LSL 385024 5390336\n\
+    LSR 393216 5505024\n\
+    ASR 393216 5505024\n\
+    ROR 385024 5390336\n\
+    ILLEGAL 200671232 343146496\n\
+",
+    ))
+}

@@ -1,0 +1,3 @@
+-- How many of the 2^32 words each class has.
+pub mod Counting
+pub mod Census
