@@ -1,0 +1,2 @@
+-- What the proofs of the blocks share.
+pub mod Laws

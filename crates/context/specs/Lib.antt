@@ -1,0 +1,6 @@
+-- The definition of a step: the context, `handle_ins` block by block; and what the code's state means.
+pub mod Context
+pub mod Blocks
+pub mod State
+pub mod Turn
+pub mod Lists
