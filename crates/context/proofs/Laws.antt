@@ -23,7 +23,7 @@ use Rattle.context.specs.declared.Then.{Then}
 use Rattle.context.specs.declared.Then.the-variants.{On, Goes, Ends, Refuses}
 use Rattle.context.specs.Context.{Context, Maps, Step, on, goes, ends, refuses, _▸_, entered, withMaps, callRow, labelRow, poolRow, tableRow}
 use Rattle.context.specs.Blocks.{callTo}
-use Rattle.context.specs.State.{World, Holds, Comes, contextOf, called, read, isOn, placed, hasPlace, putting, labelsIn, poolsIn, jumpTablesIn, inlineTablesIn, countLabels, countPools, countJumpTables, countInlineTables}
+use Rattle.context.specs.State.{World, Holds, Settles, Comes, contextOf, called, read, isOn, placed, hasPlace, putting, labelsIn, poolsIn, jumpTablesIn, inlineTablesIn, countLabels, countPools, countJumpTables, countInlineTables}
 use Rattle.arm.specs.declared.Ins.{Ins}
 
 -- ---- insertions
@@ -104,16 +104,15 @@ never {A} {b} f t = absurd (step (sym f ∙ t))
     step : false ≡ true → ⊥
     step e = let z : _≡_ {A = ℕ} 0 1 = cc in omega (arith, z)
 
-pub settles : {has : Bool} {a : ℕ} {k : Put} {r : Stepped} {l : World} {step : Step}
-    → r .state .progress .address ≡ a → r .state .call ≡ k → Holds (r .state .counts) l → read (r .then) (contextOf (r .state) l) ≡ step
-    → Comes has a k r l step
-settles {has} {k = k} {r} {l} {step} a e h s = record {
-  stays = a;
-  keeps = λ p. rw e at p;
-  holds = h;
-  says = λ p. s;
-  full = λ f t. never f (ap (placed has) e ∙ t);
-}
+module _ {has : Bool} {a : ℕ} {k : Put} {r : Stepped} {l : World} {step : Step} where
+  pub settled : Settles a k r l step → Comes has a k r l step
+  settled w = record {
+    stays = w .stays;
+    keeps = λ p. rw (w .call) at p;
+    holds = w .holds;
+    says = λ p. w .says;
+    full = λ f t. never f (ap (placed has) (w .call) ∙ t);
+  }
 
 -- ---- calls
 
@@ -175,6 +174,24 @@ off-read On c f e = cc
 off-read Goes c f e = refl
 off-read (Ends a) c f e = refl
 off-read (Refuses n r) c f e = refl
+
+module _ {a : ℕ} {k : Put} {r : Stepped} {l : World} {step : Step} (f : Context → Step) where
+  pub stop-settled : isOn (r .then) ≡ false → Settles a k r l step → Settles a k r l (step ▸ f)
+  stop-settled e w = record {
+    stays = w .stays;
+    call = w .call;
+    holds = w .holds;
+    says = off-read (r .then) (contextOf (r .state) l) f e ∙ ap (λ (x : Step). x ▸ f) (w .says);
+  }
+
+  pub go-settled : {u : Stepped} {m : World} → isOn (r .then) ≡ true → Settles a k r l step
+      → Settles (r .state .progress .address) (r .state .call) u m (f (contextOf (r .state) l)) → Settles a k u m (step ▸ f)
+  go-settled e w v = record {
+    stays = v .stays ∙ w .stays;
+    call = v .call ∙ w .call;
+    holds = v .holds;
+    says = v .says ∙ ap (λ (x : Step). x ▸ f) (sym (on-read (r .then) (contextOf (r .state) l) e) ∙ w .says);
+  }
 
 module _ {has : Bool} {a : ℕ} {k : Put} {r : Stepped} {l : World} {step : Step} (f : Context → Step) where
   pub stop : isOn (r .then) ≡ false → Comes has a k r l step → Comes has a k r l (step ▸ f)

@@ -1,10 +1,12 @@
 -- What the code's state and the lent slices mean, and what a block's code promises.
 -- Assumes nothing.
 use mathlib.Core.Path.{_≡_}
-use mathlib.Core.Bool.{Bool, true, false}
+use mathlib.Core.Bool.{Bool, true, false, not}
 use mathlib.Core.List.{List, [], _∷_}
-use Prim.Native.Nat.{ℕ}
+use Prim.Native.Nat.{ℕ, _+_}
+use lib.Dec.{ltb}
 use lib.ListN.{length}
+use Rattle.base.specs.Choice.{both}
 use Rattle.base.specs.Refusals.{listFull}
 use Rattle.registers.specs.declared.Registers.{Registers}
 use Rattle.rows.specs.Rows.{inserted}
@@ -19,6 +21,7 @@ use Rattle.context.specs.declared.State.{State}
 use Rattle.context.specs.declared.Stepped.{Stepped}
 use Rattle.context.specs.declared.Then.{Then}
 use Rattle.context.specs.declared.Then.the-variants.{On, Goes, Ends, Refuses}
+use Rattle.context.specs.Blocks.{isDestination}
 use Rattle.context.specs.Context.{Context, Given, Step, on, goes, ends, refuses, labelRow, poolRow, tableRow, callRow}
 
 -- ---- assignments to a state
@@ -145,8 +148,15 @@ abbrev pub placed : Bool → Put → Bool
 placed has Nothing = true
 placed has (Call w d mode) = has
 
--- a block's code came to a step: the address stays, the slices hold maps, and what it hands back means the step. A call is put in its list
--- behind the blocks: where it has no place, the step is a refusal, whatever the code went on to
+-- a block's code came to a step, and put no call: the address and the call stay, the slices hold maps, and what it hands back means the step
+pub record Settles (a : ℕ) (k : Put) (r : Stepped) (l : World) (step : Step) : Type 0 where
+  pub stays : r .state .progress .address ≡ a
+  pub call : r .state .call ≡ k
+  pub holds : Holds (r .state .counts) l
+  pub says : read (r .then) (contextOf (r .state) l) ≡ step
+
+-- the same where it may have put a call. That is put in its list behind the blocks: where it has no place, the step is a refusal, whatever
+-- the code went on to
 pub record Comes (has : Bool) (a : ℕ) (k : Put) (r : Stepped) (l : World) (step : Step) : Type 0 where
   pub stays : r .state .progress .address ≡ a
   pub keeps : placed has (r .state .call) ≡ true → placed has k ≡ true
@@ -154,17 +164,31 @@ pub record Comes (has : Bool) (a : ℕ) (k : Put) (r : Stepped) (l : World) (ste
   pub says : placed has (r .state .call) ≡ true → read (r .then) (contextOf (r .state) l) ≡ step
   pub full : placed has (r .state .call) ≡ false → placed has k ≡ true → step ≡ refuses listFull 0
 
--- so it does whatever stands in the slices, options and code that it does not see
+-- what a block does, whatever stands in the slices, options and code that it does not see
 abbrev pub Does : (World → World) → (World → World) → (Context → Step) → State → Stepped → Type 0
 Does before after block s r =
+    (l : World) → Holds (s .counts) (before l) → Settles (s .progress .address) (s .call) r (after l) (block (contextOf s (before l)))
+
+-- the same where it may put a call, and was told what holds
+abbrev pub PutsIf : (World → Type 0) → (World → World) → (World → World) → (Context → Step) → State → Stepped → Type 0
+PutsIf P before after block s r =
+    (l : World) → P (before l) → Holds (s .counts) (before l)
+    → Comes (hasPlace (s .progress .address) l) (s .progress .address) (s .call) r (after l) (block (contextOf s (before l)))
+
+abbrev pub Puts : (World → World) → (World → World) → (Context → Step) → State → Stepped → Type 0
+Puts before after block s r =
     (l : World) → Holds (s .counts) (before l)
     → Comes (hasPlace (s .progress .address) l) (s .progress .address) (s .call) r (after l) (block (contextOf s (before l)))
 
 abbrev pub same : World → World
 same l = l
 
--- where it was told what holds
-abbrev pub DoesIf : (World → Type 0) → (World → World) → (World → World) → (Context → Step) → State → Stepped → Type 0
-DoesIf P before after block s r =
-    (l : World) → P (before l) → Holds (s .counts) (before l)
-    → Comes (hasPlace (s .progress .address) l) (s .progress .address) (s .call) r (after l) (block (contextOf s (before l)))
+-- a return asks whether a call goes to the next address, where a pool lies further on
+unfoldable pub asksCalls : ℕ → Bool → Bool → Progress → Bool
+asksCalls size block returns p = both (not block) (both returns (ltb (p .address + size) (p .«last_pool_address»)))
+
+-- what the code is told of that: the list of calls is read before the blocks that may put one
+abbrev pub Told : ℕ → Bool → Bool → Bool → State → World → Type 0
+Told size block returns isCalled s l =
+    asksCalls size block returns (s .progress) ≡ true
+    → isCalled ≡ isDestination (s .progress .address + size) (contextOf s l .maps .calls)

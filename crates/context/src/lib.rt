@@ -12,7 +12,7 @@ use walk::Machines;
 use walk::Progress;
 ghost use mathlib.Core.Path.{_≡_};
 ghost use Rattle.context.specs.Blocks.{isIn, callTo};
-ghost use Rattle.context.specs.State.{isOn, Does, same};
+ghost use Rattle.context.specs.State.{isOn, Puts, same};
 
 // The numbers in a row of each list. A label: address. A pool: address, value, mark. A table: address, size. A call: address, word,
 // destination, mode.
@@ -84,7 +84,7 @@ pub fn is_in(from: u32, to: u32, address: u32) -> bool
 
 // The call from this address. Whether it has a place is asked behind the blocks.
 pub fn call_to(s: State, word: u32, ins: Ins, mode: u32) -> Stepped
-    ensures { λ r. ⌜ Does same same (callTo ins word mode) s r ⌝ }
+    ensures { λ r. ⌜ Puts same same (callTo ins word mode) s r ⌝ }
 {
     assign::on(assign::with_call(
         s,
