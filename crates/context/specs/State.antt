@@ -6,8 +6,10 @@ use mathlib.Core.List.{List, [], _∷_}
 use Prim.Native.Nat.{ℕ, _+_}
 use lib.Dec.{ltb}
 use lib.ListN.{length}
+use Rattle.arm.specs.declared.Ins.{Ins}
 use Rattle.base.specs.Choice.{both}
 use Rattle.base.specs.Refusals.{listFull}
+use Rattle.predicates.specs.Predicates.{asPrevious}
 use Rattle.registers.specs.declared.Registers.{Registers}
 use Rattle.rows.specs.Rows.{inserted}
 use Rattle.rows.specs.Map.{keyOf, mapIn, Held, fits}
@@ -22,7 +24,7 @@ use Rattle.context.specs.declared.Stepped.{Stepped}
 use Rattle.context.specs.declared.Then.{Then}
 use Rattle.context.specs.declared.Then.the-variants.{On, Goes, Ends, Refuses}
 use Rattle.context.specs.Blocks.{isDestination}
-use Rattle.context.specs.Context.{Context, Given, Step, on, goes, ends, refuses, labelRow, poolRow, tableRow, callRow}
+use Rattle.context.specs.Context.{Context, Given, Step, on, goes, ends, refuses, labelRow, poolRow, tableRow, callRow, moving}
 
 -- ---- assignments to a state
 
@@ -138,6 +140,16 @@ read On c = on c
 read Goes c = goes c
 read (Ends a) c = ends a c
 read (Refuses n r) c = refuses n r
+
+-- the code's `passed`
+abbrev pub passesAs : Then → Ins → State → Stepped
+passesAs On i s = record { then = Goes; state = progressed (moving (s .next) (asPrevious i) (s .progress)) s }
+passesAs Goes i s = record { then = Goes; state = progressed (moving (s .next) (asPrevious i) (s .progress)) s }
+passesAs (Ends a) i s = record { then = Ends a; state = s }
+passesAs (Refuses n r) i s = record { then = Refuses n r; state = s }
+
+abbrev pub passes : Ins → Stepped → Stepped
+passes i r = passesAs (r .then) i (r .state)
 
 -- a call from the address has a place in the list of calls
 abbrev pub hasPlace : ℕ → World → Bool

@@ -7,11 +7,13 @@ use analysis::function_branch::FunctionBranchState;
 use analysis::illegal_code::IllegalCodeState;
 use analysis::inline_table::InlineTableState;
 use analysis::jump_table::JumpTableStateArm;
+use predicates::Previous;
 use registers::Registers;
 use walk::Machines;
+use walk::Progress;
 ghost use mathlib.Core.Path.{_≡_};
 ghost use Prim.Native.Nat.{max};
-ghost use Rattle.context.specs.Context.{raising, tableTo, poolTo, defining, jumpTableTo, functionBranchTo, inlineTableTo, illegalCodeTo};
+ghost use Rattle.context.specs.Context.{raising, tableTo, poolTo, defining, moving, jumpTableTo, functionBranchTo, inlineTableTo, illegalCodeTo};
 ghost use Rattle.context.specs.State.{headed, progressed, machined, registered, counted, putting, countLabels, countPools, countJumpTables, countInlineTables, countCalls};
 
 fn larger(a: u32, b: u32) -> u32
@@ -63,6 +65,35 @@ pub fn define(s: State, defined: u16) -> State
     let mut t = s;
     t.progress.defined_registers = defined;
     t
+}
+
+// The next turn is at the parser's address.
+pub fn move_on(s: State, previous: Previous) -> State
+    ensures { λ r. ⌜ r ≡ progressed (moving (s .next) previous (s .progress)) s ⌝ }
+{
+    let p = s.progress;
+    let progress = Progress {
+        start: p.start,
+        address: s.next,
+        last_conditional_destination: p.last_conditional_destination,
+        last_pool_address: p.last_pool_address,
+        jump_table_end_address: p.jump_table_end_address,
+        defined_registers: p.defined_registers,
+        previous,
+    };
+    let next = s.next;
+    let machines = s.machines;
+    let registers = s.registers;
+    let counts = s.counts;
+    let call = s.call;
+    State {
+        next,
+        progress,
+        machines,
+        registers,
+        counts,
+        call,
+    }
 }
 
 pub fn count_labels(s: State, n: usize) -> State

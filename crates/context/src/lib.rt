@@ -11,8 +11,10 @@ use walk::Counts;
 use walk::Machines;
 use walk::Progress;
 ghost use mathlib.Core.Path.{_≡_};
+ghost use Prim.Native.Nat.{_+_, _<_, _^_};
+ghost use lib.Dec.{ltb};
 ghost use Rattle.context.specs.Blocks.{isIn, callTo};
-ghost use Rattle.context.specs.State.{isOn, Puts, same};
+ghost use Rattle.context.specs.State.{isOn, Puts, same, asksCalls, passes};
 
 // The numbers in a row of each list. A label: address. A pool: address, value, mark. A table: address, size. A call: address, word,
 // destination, mode.
@@ -94,4 +96,40 @@ pub fn call_to(s: State, word: u32, ins: Ins, mode: u32) -> Stepped
             mode,
         },
     ))
+}
+
+pub fn in_conditional_block(s: State) -> bool
+    ensures { λ r. ⌜ r ≡ ltb (s .progress .address) (s .progress .«last_conditional_destination») ⌝ }
+{
+    s.progress.address < s.progress.last_conditional_destination
+}
+
+// A return asks the calls only where a pool lies further on.
+pub fn asks_calls(s: State, size: u32, block: bool, returns: bool) -> bool
+    requires { ⌜ s .progress .address + size < 2 ^ 32 ⌝ }
+    ensures { λ r. ⌜ r ≡ asksCalls size block returns (s .progress) ⌝ }
+{
+    if block {
+        return false;
+    }
+    if !returns {
+        return false;
+    }
+    s.progress.address + size < s.progress.last_pool_address
+}
+
+// handle_ins: the instruction becomes the previous one, and the walk goes on at the parser's address.
+pub fn pass(r: Stepped, ins: Ins) -> Stepped
+    ensures { λ p. ⌜ p ≡ passes ins r ⌝ }
+{
+    let then = r.then;
+    match then {
+        Then::On => assign::go(assign::move_on(r.state, predicates::as_previous(ins))),
+        Then::Goes => assign::go(assign::move_on(r.state, predicates::as_previous(ins))),
+        Then::Ends(_) => r,
+        Then::Refuses {
+            number: _,
+            register: _,
+        } => r,
+    }
 }

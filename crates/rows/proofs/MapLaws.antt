@@ -8,12 +8,12 @@ use native.Mathlib.Nat.{not-suc-le-zero, le-of-suc-le-suc, add-zero, zero-mul, s
 use native.Mathlib.Omega.{arith}
 use borrow.Author.Tests.{leb-true, le-leb}
 use lib.Dec.{leb}
-use lib.ListN.{length, getD, take, drop, replicate, length-append, length-drop, length-replicate, List·getD-map}
+use lib.ListN.{length, getD, take, drop, replicate, length-append, length-drop, length-replicate, replicate-append-replicate, List·getD-map}
 use lib.Seq.{length-take-le, drop-drop, take-add, getD-take, getD-drop, take-at, drop-at}
 use Rattle.base.specs.Choice.{pick}
 use Rattle.rows.specs.Order.{rising, ascending, zeros, cleared}
 use Rattle.rows.specs.Rows.{padded}
-use Rattle.rows.proofs.OrderLaws.{both-first, both-second, cleared-padded, padded-cleared}
+use Rattle.rows.proofs.OrderLaws.{both-first, both-second, zeros-replicate, cleared-padded, padded-cleared}
 use Rattle.rows.specs.Map.{keyOf, Wide, Map, flat, encode, mapIn, Held, inOrder}
 
 -- a row among n ends within what holds them
@@ -120,6 +120,15 @@ module _ {k n : ℕ} {list : List ℕ} (h : Held k n list) where
       let within : length f ≤ length list = rw held-flat (h .fits) in
       let clear : cleared list (n * k) ≡ true = ap (λ (r : List ℕ). cleared r (n * k)) (h .holds) ∙ (rw held-flat at (padded-cleared (length list) f within)) in
       rw (le-leb (n * k) (length list) (h .fits), h .rises) (both-second (leb (n * k) (length list)) _ clear)
+
+  -- zeros for the rows are zeros everywhere
+  pub held-cleared : replicate (n * k) 0 ++ drop (n * k) list ≡ replicate (length list) 0
+  unfolding inOrder
+  held-cleared =
+      let rest : zeros (drop (n * k) list) ≡ true =
+      both-second (ascending (map keyOf (mapIn k n list))) _ (both-second (leb (n * k) (length list)) _ held-in-order) in
+      let long : n * k + length (drop (n * k) list) ≡ length list = simp length-drop (omega (arith, h .fits)) in
+      rw (zeros-replicate (drop (n * k) list) rest, replicate-append-replicate, long)
 
 -- and says it of no other slice
 pub in-order-held : {k n : ℕ} {list : List ℕ} → 0 < k → inOrder k n list ≡ true → Held k n list
