@@ -1,0 +1,2 @@
+-- The laws of a turn: what the checks have shown; where a step goes on or ends; what it keeps; when a walk ends.
+pub mod CheckLaws
