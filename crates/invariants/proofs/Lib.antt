@@ -1,2 +1,6 @@
 -- The laws of a turn: what the checks have shown; where a step goes on or ends; what it keeps; when a walk ends.
 pub mod CheckLaws
+pub mod BlockLaws
+pub mod ClassLaws
+pub mod TargetLaws
+pub mod MoveLaws
