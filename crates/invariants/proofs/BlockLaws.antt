@@ -1,6 +1,6 @@
 -- One block after another: a property that every assignment of a step keeps holds after each block, and so after the step.
 -- Assumes nothing.
-use mathlib.Core.Path.{_≡_, refl, sym, ap, _∙_}
+use mathlib.Core.Path.{_≡_, refl, ap}
 use mathlib.Core.Bool.{Bool, true, false, not}
 use mathlib.Core.List.{List, [], _∷_}
 use mathlib.Core.Logic.{_⊎_, inl, inr}
@@ -9,7 +9,7 @@ use Prim.Native.Nat.{ℕ, suc, _+_, _≤_, _<_}
 use native.Mathlib.Nat.{le-of-suc-le-suc}
 use native.Mathlib.Omega.{arith}
 use borrow.Author.Tests.{ltb-true, ltb-false}
-use lib.Dec.{ltb, leb, eqb}
+use lib.Dec.{ltb, eqb}
 use lib.ListN.{length, getD}
 use Rattle.analysis.specs.declared.illegal_code.IllegalCodeState.{IllegalCodeState}
 use Rattle.analysis.specs.declared.illegal_code.IllegalCodeState.the-variants.{Start, ShiftedRegisterValue, Illegal}
@@ -22,7 +22,6 @@ use Rattle.analysis.specs.declared.jump_table.JumpTableAnswer.the-variants.{Nex
 use Rattle.analysis.specs.declared.jump_table.TableEnd.{TableEnd}
 use Rattle.analysis.specs.declared.jump_table.TableEnd.the-variants.{At as E-At, Nothing as E-Nothing, Refused as E-Refused}
 use Rattle.analysis.specs.IllegalCode.{illegalCode as codeMachine}
-use Rattle.analysis.specs.FunctionBranch.{functionBranch}
 use Rattle.analysis.specs.InlineTable.{inlineTable as inlineMachine, tableOf}
 use Rattle.analysis.specs.JumpTable.{jumpTable as jumpMachine, tableEnd}
 use Rattle.arm.specs.declared.Ins.{Ins}
@@ -32,11 +31,11 @@ use Rattle.base.specs.declared.word.Word.the-variants.{Found as W-Found, Missin
 use Rattle.base.specs.Choice.{pick, both, either}
 use Rattle.base.specs.Words.{wordFrom}
 use Rattle.context.specs.Blocks
-use Rattle.context.specs.Blocks.{other, skipPool, skipInlineTable, skipsTo, inlineTableAt, endOf, jumpTable, afterJump, raisedToTable, illegalCode, coded, afterCode, branchOutside, marked, markPool, forgetWritten, finalReturn, isTailCall, isLongBranchDestination, callTo, arm, thumb, entryAfterBranch, pastGap, toLabel, pastPools, raisesLabel, labelRaised, handleLabel, isOtherFunction, branches, branched, branch, loaded, poolLoad, tabled, afterInline, inlineTable, calledAs, functionCall, checkedBy, checkDefined, inConditionalBlock, isIn, fromReturn, toReturn, handleInsInner, passed, handleIns}
+use Rattle.context.specs.Blocks.{other, skipPool, skipInlineTable, inlineTableAt, endOf, jumpTable, afterJump, raisedToTable, illegalCode, afterCode, branchOutside, marked, markPool, forgetWritten, finalReturn, isTailCall, isLongBranchDestination, callTo, arm, thumb, entryAfterBranch, pastGap, toLabel, pastPools, raisesLabel, labelRaised, handleLabel, isOtherFunction, branches, branched, branch, loaded, poolLoad, tabled, afterInline, inlineTable, calledAs, functionCall, checkDefined, isIn, fromReturn, toReturn, handleInsInner, passed, handleIns}
 use Rattle.context.specs.Context.{Context, Step, on, goes, ends, refuses, _▸_, goingTo, withProgress, withMachines, withRegisters, withMaps, raising, tableTo, poolTo, defining, moving, labelsTo, poolsTo, jumpTablesTo, inlineTablesTo, callsTo, labelRow, poolRow, tableRow, callRow}
 use Rattle.predicates.specs.declared.Callee.{Callee}
 use Rattle.predicates.specs.declared.Callee.the-variants.{Nothing as No-Call, Arm, Thumb}
-use Rattle.predicates.specs.Predicates.{isBranch, isBx, isReturn, isEntryInstruction, isPoolLoad, poolAddress, calledBy, asPrevious}
+use Rattle.predicates.specs.Predicates.{isBranch, isBx, isEntryInstruction, isPoolLoad, poolAddress, calledBy, asPrevious}
 use Rattle.registers.specs.Registers.{forgotten, holding, sourceOf}
 use Rattle.rows.specs.Rows.{rank, inserted}
 use Rattle.rows.specs.Map.{keyOf, stands-in, atOrAbove, fits}
@@ -48,7 +47,7 @@ use Rattle.rows.specs.declared.Gap.the-variants.{At as G-At, Beyond as G-Beyond
 use Rattle.rows.proofs.RunLaws.{gap-at}
 use Rattle.walk.specs.declared.Machines.{Machines}
 use Rattle.rows.proofs.OrderLaws.{both-first, both-second}
-use Rattle.walk.specs.Checking.{undefinedRegister, definedAfter}
+use Rattle.walk.specs.Checking.{undefinedRegister}
 
 -- what a step comes to: P of the context that the next block gets, G of the one that the next turn gets, E of an end
 pub data Meets (P G : Context → Type 0) (E : ℕ → Context → Type 0) : Step → Type 0 where
@@ -336,6 +335,17 @@ module _ (i : Ins) (G : Context → Type 0) where
   passed-kept (has-gone g) = has-gone g
   passed-kept (has-ended e) = has-ended e
   passed-kept is-refused = is-refused
+
+-- it never goes on to a next block
+pub never-on : (i : Ins) (word size : ℕ) (c d : Context) → handleIns i word size c ≡ on d → ⊥
+unfolding handleIns
+never-on i word size c d e = step (handleInsInner i word size (goingTo (c .progress .address + size) c)) e
+  where
+    step : (s : Step) → passed i s ≡ on d → ⊥
+    step (on b) e = let z : _≡_ {A = ℕ} 0 1 = cc in omega arith
+    step (goes b) e = let z : _≡_ {A = ℕ} 0 1 = cc in omega arith
+    step (ends a b) e = let z : _≡_ {A = ℕ} 0 1 = cc in omega arith
+    step (refuses n r) e = let z : _≡_ {A = ℕ} 0 1 = cc in omega arith
 
 module _ (i : Ins) (size : ℕ) (P G : Context → Type 0) (E : ℕ → Context → Type 0) (k : Kept i size P (λ c. G (moved i c)) E) where
   pub handleIns-kept : (word : ℕ) (c : Context) → P (goingTo (c .progress .address + size) c)

@@ -2,14 +2,14 @@
 -- Assumes nothing.
 use mathlib.Core.Path.{_≡_, refl}
 use mathlib.Core.Bool.{Bool, true, false}
-use mathlib.Core.List.{List, [], _∷_}
+use mathlib.Core.List.{List}
 use Prim.Native.Nat.{ℕ, _%_, _<_, _≤_}
 use native.Mathlib.Omega.{arith}
 use borrow.Author.Tests.{leb-true, le-leb, eqb-true, eq-eqb}
-use lib.Dec.{leb, eqb}
+use lib.Dec.{eqb}
 use lib.ListN.{length}
 use Rattle.base.specs.Choice.{pick, both}
-use Rattle.context.specs.Context.{labelRow, poolRow, tableRow, callRow}
+use Rattle.context.specs.Context.{labelRow, poolRow, tableRow}
 use Rattle.context.specs.Lists.{Lists, AllHeld, mapsIn}
 use Rattle.context.specs.Turn.{keyOr0}
 use Rattle.rows.specs.Map.{Held, inOrder, lastKey}

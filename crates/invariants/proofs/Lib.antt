@@ -4,3 +4,8 @@ pub mod BlockLaws
 pub mod ClassLaws
 pub mod TargetLaws
 pub mod MoveLaws
+pub mod WordLaws
+pub mod PoolLaws
+pub mod SoundLaws
+pub mod TurnLaws
+pub mod KeptLaws

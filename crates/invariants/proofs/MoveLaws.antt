@@ -1,11 +1,11 @@
 -- Where a step goes on, and where it ends: a step that goes on has moved on; one that ends has come to its own instruction's end, or to its
 -- beginning where that is the entry of another function.
 -- Assumes nothing.
-use mathlib.Core.Path.{_≡_, refl, sym, ap, _∙_}
+use mathlib.Core.Path.{_≡_, refl, ap}
 use mathlib.Core.Bool.{Bool, true, false}
 use mathlib.Core.List.{List, [], _∷_}
 use mathlib.Core.Logic.{_⊎_, inl, inr}
-use mathlib.Core.Option.{Option, none, some}
+use mathlib.Core.Option.{none, some}
 use Prim.Native.Nat.{ℕ, suc, _+_, _≤_, _<_, suc-le-suc}
 use native.Mathlib.Omega.{arith}
 use borrow.Author.Tests.{ltb-true, eqb-true, eq-eqb, lt-ltb}
@@ -13,10 +13,10 @@ use lib.Dec.{ltb, leb, eqb}
 use lib.ListN.{length}
 use Rattle.arm.specs.declared.Ins.{Ins}
 use Rattle.arm.specs.Ins.{decodeOf}
-use Rattle.base.specs.Choice.{pick, both}
+use Rattle.base.specs.Choice.{pick}
 use Rattle.context.specs.Blocks.{inlineTableAt, isWithin, endOf, pastGap, toLabel, pastPools, raisesLabel, labelRaised, handleLabel, handleIns}
 use Rattle.context.specs.Turn.{armSize}
-use Rattle.context.specs.Context.{Context, Step, on, goes, ends, refuses, goingTo, withProgress, raising, enterLabel, labelRow}
+use Rattle.context.specs.Context.{Context, Step, on, goes, ends, withProgress, raising, enterLabel, labelRow}
 use Rattle.predicates.specs.Predicates.{isBranch, isEntryInstruction}
 use Rattle.rows.specs.Rows.{rank, stands, inserted}
 use Rattle.rows.specs.Map.{keyOf, stands-in, atOrAbove, fits}

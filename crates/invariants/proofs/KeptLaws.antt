@@ -1,0 +1,205 @@
+-- What the checks ask for holds again after a turn that goes on; and after any turn the lists hold its maps.
+-- Assumes nothing.
+use mathlib.Core.Path.{_≡_, refl, ap}
+use mathlib.Core.Bool.{true}
+use mathlib.Core.List.{List, []}
+use Prim.Native.Nat.{ℕ, _*_, _<_}
+use native.Mathlib.Nat.{zero-mul}
+use native.Mathlib.Omega.{arith}
+use borrow.Author.Tests.{leb-true}
+use lib.Dec.{leb}
+use lib.ListN.{length, length-append, length-replicate}
+use Rattle.arm.specs.Ins.{decodeOf}
+use Rattle.base.specs.declared.word.Word.{Word}
+use Rattle.base.specs.declared.word.Word.the-variants.{Found as W-Found, Missing}
+use Rattle.base.specs.Words.{wordFrom}
+use Rattle.context.specs.Context.{Maps, Given, Context, Step, labelRow, poolRow, tableRow, callRow}
+use Rattle.context.specs.Lists.{Lists, AllHeld, mapsIn, written, zeroed, placesOf, givenBy}
+use Rattle.context.specs.Turn.{Turned, noMaps, countsOf, contextAt, walkOf, closed, functionOf, endingAt, settled, turnAt, turn, armSize}
+use Rattle.rows.specs.Order.{ascending}
+use Rattle.rows.specs.Rows.{padded}
+use Rattle.rows.specs.Map.{Held, flat, encode, mapIn, lastKey}
+use Rattle.rows.proofs.MapLaws.{held-map, map-length, flat-length, encode-map, encode-held}
+use Rattle.rows.proofs.OrderLaws.{both-first}
+use Rattle.stepper.specs.Calls.{isGoing, numberAt, turned}
+use Rattle.validity.specs.Validity.{isInCode, areWhole, areHeld}
+use Rattle.walk.specs.declared.Answer.{Answer}
+use Rattle.walk.specs.declared.Answer.the-variants.{Going, Accepted, Refused}
+use Rattle.walk.specs.declared.Counts.{Counts}
+use Rattle.walk.specs.declared.Options.{Options}
+use Rattle.walk.specs.declared.Walk.{Walk}
+use Rattle.walk.specs.IntoFunction.{begun}
+use Rattle.invariants.proofs.BlockLaws.{Meets, is-on, has-gone, has-ended, is-refused, gone}
+use Rattle.invariants.proofs.CheckLaws.{Begins, Passed, number-passed, passed-number}
+use Rattle.invariants.proofs.MoveLaws.{goes-past}
+use Rattle.invariants.proofs.TurnLaws.{turn-onward}
+use Rattle.invariants.proofs.SoundLaws.{Fit, AllFit, Sound, Same, step-same, step-sound}
+
+-- ---- maps that fit, and the lists that they are written to
+
+module _ {k places : ℕ} {m : List (List ℕ)} (s : 0 < k) (f : Fit k places m) where
+  fit-held : Held k (length m) (encode places m)
+  fit-held = encode-held m s (f .is) (f .room) refl refl .0
+
+  fit-length : length (encode places m) ≡ places
+  unfolding padded
+  fit-length =
+      let long : length (flat m) ≡ length m * k = flat-length k m (f .is .wide) in
+      let room = f .room in
+      simp (length-append, length-replicate) (omega arith)
+
+held-fit : {k n : ℕ} {list : List ℕ} → Held k n list → Fit k (length list) (mapIn k n list)
+held-fit {k} {n} {list} h = record { is = held-map h; room = rw (map-length k n list) (h .fits) }
+
+none-fit : (k places : ℕ) → Fit k places []
+unfolding ascending
+none-fit k places = record { is = record { wide = tt; rises = refl }; room = omega (arith, zero-mul k) }
+
+pub none-fits : (places : Counts) → AllFit places noMaps
+none-fits n = record {
+  labels = none-fit labelRow (n .labels);
+  pools = none-fit poolRow (n .pools);
+  «jump_tables» = none-fit tableRow (n .«jump_tables»);
+  «inline_tables» = none-fit tableRow (n .«inline_tables»);
+  calls = none-fit callRow (n .calls);
+}
+
+module _ (l : Lists) (m : Maps) (f : AllFit (placesOf l) m) where
+  pub written-held : AllHeld (countsOf m) (written l m)
+  written-held = record {
+    labels = fit-held (omega arith) (f .labels);
+    pools = fit-held (omega arith) (f .pools);
+    «jump_tables» = fit-held (omega arith) (f .«jump_tables»);
+    «inline_tables» = fit-held (omega arith) (f .«inline_tables»);
+    calls = fit-held (omega arith) (f .calls);
+  }
+
+  pub written-maps : mapsIn (countsOf m) (written l m) ≡ m
+  written-maps =
+      rw (
+        encode-map labelRow (length (l .labels)) (m .labels) (f .labels .is .wide),
+        encode-map poolRow (length (l .pools)) (m .pools) (f .pools .is .wide),
+        encode-map tableRow (length (l .«jump_tables»)) (m .«jump_tables») (f .«jump_tables» .is .wide),
+        encode-map tableRow (length (l .«inline_tables»)) (m .«inline_tables») (f .«inline_tables» .is .wide),
+        encode-map callRow (length (l .calls)) (m .calls) (f .calls .is .wide),
+      )
+
+  pub written-places : placesOf (written l m) ≡ placesOf l
+  written-places =
+      rw (
+        fit-length (omega arith) (f .labels),
+        fit-length (omega arith) (f .pools),
+        fit-length (omega arith) (f .«jump_tables»),
+        fit-length (omega arith) (f .«inline_tables»),
+        fit-length (omega arith) (f .calls),
+      )
+
+held-fits : (n : Counts) (l : Lists) → AllHeld n l → AllFit (placesOf l) (mapsIn n l)
+held-fits n l h = record {
+  labels = held-fit (h .labels);
+  pools = held-fit (h .pools);
+  «jump_tables» = held-fit (h .«jump_tables»);
+  «inline_tables» = held-fit (h .«inline_tables»);
+  calls = held-fit (h .calls);
+}
+
+-- ---- a turn
+
+closed-fits : (places : Counts) (a : Answer) (c : Context) → AllFit places (c .maps) → AllFit places (closed a c .maps)
+closed-fits places Going c f = f
+closed-fits places (Accepted r) c f = f
+closed-fits places (Refused n x r) c f = none-fits places
+
+module _ (o : Options) (code starts : List ℕ) (w : Walk) (l : Lists) (p : Passed o code starts w l) where
+  abbrev before : Context
+  before = contextAt (givenBy o code starts l) w (mapsIn (w .counts) l)
+
+  abbrev after : Turned
+  after = turn (givenBy o code starts l) w (mapsIn (w .counts) l)
+
+  before-sound : Sound before
+  before-sound = (held-fits (w .counts) l (p .lists), record { whole = p .whole; is-last = p .last; are-held = p .held })
+
+  settled-fits : {s : Step} → Meets (λ _. ⊥) Sound (λ e d. Sound d) s
+      → Meets (λ _. ⊥) (Same (before .given) (before .progress .start)) (λ e d. Same (before .given) (before .progress .start) d) s
+      → AllFit (placesOf l) (settled before s .maps)
+  settled-fits (is-on q) m = absurd q
+  settled-fits (has-gone q) (has-gone m) = rw (ap (λ (g : Given). g .places) (m .0)) at (q .0)
+  settled-fits (has-ended {a = e} {c = c} q) (has-ended m) =
+      closed-fits (placesOf l) (functionOf e c) (endingAt e c) (rw (ap (λ (g : Given). g .places) (m .0)) at (q .0))
+  settled-fits is-refused m = none-fits (placesOf l)
+
+  word-fits : (x : Word) → AllFit (placesOf l) (turnAt x before .maps)
+  word-fits (W-Found word) =
+      let i = decodeOf word (w .progress .address) in
+      settled-fits (step-sound i word armSize before before-sound) (step-same i word armSize before)
+  word-fits Missing = none-fits (placesOf l)
+
+  -- any turn leaves maps that fit
+  pub turn-fits : AllFit (placesOf l) (after .maps)
+  unfolding turn
+  turn-fits = word-fits (wordFrom code (o .base) (w .progress .address))
+
+  -- one that goes on leaves what passes the checks again
+  pub turn-passed : isGoing (after .walk .result) ≡ true → Passed o code starts (after .walk) (written l (after .maps))
+  turn-passed h =
+      let t = turn-onward (givenBy o code starts l) w (mapsIn (w .counts) l) h in
+      let i = decodeOf (t .word) (w .progress .address) in
+      rw (t .is)
+      (onward (t .to)
+      (gone (t .to) (step-sound i (t .word) armSize before before-sound) (t .step))
+      (gone (t .to) (step-same i (t .word) armSize before) (t .step))
+      (goes-past i (t .word) armSize before (t .to) (omega arith) (t .step)))
+    where
+      onward : (c : Context) → Sound c → Same (before .given) (before .progress .start) c → w .progress .address < c .progress .address
+          → Passed o code starts (walkOf Going c .walk) (written l (c .maps))
+      onward c q m past =
+          let f : AllFit (placesOf l) (c .maps) = rw (ap (λ (g : Given). g .places) (m .0)) at (q .0) in
+          let pools = encode-map poolRow (length (l .pools)) (c .maps .pools) (f .pools .is .wide) in
+          let base = p .above in
+          record {
+            window = p .window;
+            start = rw (m .1) (p .start);
+            above = omega arith;
+            aligned = rw (m .1) (p .aligned);
+            ascends = p .ascends;
+            lists = written-held l (c .maps) f;
+            whole = rw pools (rw (m .0) at (q .1 .whole));
+            last = rw pools (q .1 .is-last);
+            held = rw pools (q .1 .are-held);
+          }
+
+-- ---- the same by number
+
+module _ (o : Options) (code starts : List ℕ) (w : Walk) (l : Lists) (number : numberAt o code starts w l ≡ 0) where
+  abbrev here : Turned
+  here = turn (givenBy o code starts l) w (mapsIn (w .counts) l)
+
+  passed : Passed o code starts w l
+  passed = number-passed o code starts w l number
+
+  pub turn-kept : isGoing (here .walk .result) ≡ true → numberAt o code starts (turned l here .walk) (turned l here .lists) ≡ 0
+  turn-kept h = passed-number o code starts (here .walk) (written l (here .maps)) (turn-passed o code starts w l passed h)
+
+  pub turn-held : AllHeld (countsOf (here .maps)) (written l (here .maps)) × (mapsIn (countsOf (here .maps)) (written l (here .maps)) ≡ here .maps)
+  turn-held = let f = turn-fits o code starts w l passed in (written-held l (here .maps) f, written-maps l (here .maps) f)
+
+  -- the lists keep their places
+  pub turn-places : placesOf (written l (here .maps)) ≡ placesOf l
+  turn-places = written-places l (here .maps) (turn-fits o code starts w l passed)
+
+-- ---- a begin that passed leaves a walk that passes
+
+pub begun-passed : (o : Options) (a : ℕ) (code starts : List ℕ) (l : Lists) → Begins o a code starts → Passed o code starts (begun a (countsOf noMaps)) (zeroed l)
+unfolding begun mapIn areWhole areHeld lastKey isInCode
+begun-passed o a code starts l b = record {
+  window = b .window;
+  start = b .start;
+  above = leb-true (o .base) a (both-first (leb (o .base) a) _ (b .start));
+  aligned = b .aligned;
+  ascends = b .ascends;
+  lists = written-held l noMaps (none-fits (placesOf l));
+  whole = refl;
+  last = refl;
+  held = refl;
+}
