@@ -15,7 +15,7 @@ use Rattle.base.specs.declared.word.Word.the-variants.{Found as W-Found, Missin
 use Rattle.base.specs.Words.{wordFrom}
 use Rattle.context.specs.Context.{Maps, Given, Context, Step, labelRow, poolRow, tableRow, callRow}
 use Rattle.context.specs.Lists.{Lists, AllHeld, mapsIn, written, zeroed, placesOf, givenBy}
-use Rattle.context.specs.Turn.{Turned, noMaps, countsOf, contextAt, walkOf, closed, functionOf, endingAt, settled, turnAt, turn, armSize}
+use Rattle.context.specs.Turn.{Turned, noMaps, countsOf, contextAt, closed, functionOf, endingAt, settled, turnAt, turn, armSize}
 use Rattle.rows.specs.Order.{ascending}
 use Rattle.rows.specs.Rows.{padded}
 use Rattle.rows.specs.Map.{Held, flat, encode, mapIn, lastKey}
@@ -31,8 +31,7 @@ use Rattle.walk.specs.declared.Walk.{Walk}
 use Rattle.walk.specs.IntoFunction.{begun}
 use Rattle.invariants.proofs.BlockLaws.{Meets, is-on, has-gone, has-ended, is-refused, gone}
 use Rattle.invariants.proofs.CheckLaws.{Begins, Passed, number-passed, passed-number}
-use Rattle.invariants.proofs.MoveLaws.{goes-past}
-use Rattle.invariants.proofs.TurnLaws.{turn-onward}
+use Rattle.invariants.proofs.TurnLaws.{turn-onward, turn-past, turn-counts}
 use Rattle.invariants.proofs.SoundLaws.{Fit, AllFit, Sound, Same, step-same, step-sound}
 
 -- ---- maps that fit, and the lists that they are written to
@@ -110,66 +109,50 @@ closed-fits places Going c f = f
 closed-fits places (Accepted r) c f = f
 closed-fits places (Refused n x r) c f = none-fits places
 
-module _ (o : Options) (code starts : List ℕ) (w : Walk) (l : Lists) (p : Passed o code starts w l) where
+module _ (g : Given) (w : Walk) (m : Maps) where
   abbrev before : Context
-  before = contextAt (givenBy o code starts l) w (mapsIn (w .counts) l)
+  before = contextAt g w m
 
-  abbrev after : Turned
-  after = turn (givenBy o code starts l) w (mapsIn (w .counts) l)
+  abbrev IsSame : Context → Type 0
+  IsSame d = Same g (w .progress .start) d
 
-  before-sound : Sound before
-  before-sound = (held-fits (w .counts) l (p .lists), record { whole = p .whole; is-last = p .last; are-held = p .held })
+  settled-fits : {s : Step} → Meets (λ _. ⊥) Sound (λ e d. Sound d) s → Meets (λ _. ⊥) IsSame (λ e d. IsSame d) s
+      → AllFit (g .places) (settled before s .maps)
+  settled-fits (is-on q) k = absurd q
+  settled-fits (has-gone q) (has-gone k) = rw (ap (λ (x : Given). x .places) (k .0)) at (q .0)
+  settled-fits (has-ended {a = e} {c = c} q) (has-ended k) =
+      closed-fits (g .places) (functionOf e c) (endingAt e c) (rw (ap (λ (x : Given). x .places) (k .0)) at (q .0))
+  settled-fits is-refused k = none-fits (g .places)
 
-  settled-fits : {s : Step} → Meets (λ _. ⊥) Sound (λ e d. Sound d) s
-      → Meets (λ _. ⊥) (Same (before .given) (before .progress .start)) (λ e d. Same (before .given) (before .progress .start) d) s
-      → AllFit (placesOf l) (settled before s .maps)
-  settled-fits (is-on q) m = absurd q
-  settled-fits (has-gone q) (has-gone m) = rw (ap (λ (g : Given). g .places) (m .0)) at (q .0)
-  settled-fits (has-ended {a = e} {c = c} q) (has-ended m) =
-      closed-fits (placesOf l) (functionOf e c) (endingAt e c) (rw (ap (λ (g : Given). g .places) (m .0)) at (q .0))
-  settled-fits is-refused m = none-fits (placesOf l)
-
-  word-fits : (x : Word) → AllFit (placesOf l) (turnAt x before .maps)
-  word-fits (W-Found word) =
+  word-fits : Sound before → (x : Word) → AllFit (g .places) (turnAt x before .maps)
+  word-fits p (W-Found word) =
       let i = decodeOf word (w .progress .address) in
-      settled-fits (step-sound i word armSize before before-sound) (step-same i word armSize before)
-  word-fits Missing = none-fits (placesOf l)
+      settled-fits (step-sound i word armSize before p) (step-same i word armSize before)
+  word-fits p Missing = none-fits (g .places)
 
   -- any turn leaves maps that fit
-  pub turn-fits : AllFit (placesOf l) (after .maps)
+  pub turn-fits : Sound (contextAt g w m) → AllFit (g .places) (turn g w m .maps)
   unfolding turn
-  turn-fits = word-fits (wordFrom code (o .base) (w .progress .address))
+  turn-fits p = word-fits p (wordFrom (g .code) (g .options .base) (w .progress .address))
 
-  -- one that goes on leaves what passes the checks again
-  pub turn-passed : isGoing (after .walk .result) ≡ true → Passed o code starts (after .walk) (written l (after .maps))
-  turn-passed h =
-      let t = turn-onward (givenBy o code starts l) w (mapsIn (w .counts) l) h in
+  -- one that goes on keeps what check 4 asks for, and its start
+  pub turn-sound : Sound (contextAt g w m) → isGoing (turn g w m .walk .result) ≡ true → Sound (contextAt g (turn g w m .walk) (turn g w m .maps))
+  turn-sound p h =
+      let t = turn-onward g w m h in
       let i = decodeOf (t .word) (w .progress .address) in
-      rw (t .is)
-      (onward (t .to)
-      (gone (t .to) (step-sound i (t .word) armSize before before-sound) (t .step))
-      (gone (t .to) (step-same i (t .word) armSize before) (t .step))
-      (goes-past i (t .word) armSize before (t .to) (omega arith) (t .step)))
-    where
-      onward : (c : Context) → Sound c → Same (before .given) (before .progress .start) c → w .progress .address < c .progress .address
-          → Passed o code starts (walkOf Going c .walk) (written l (c .maps))
-      onward c q m past =
-          let f : AllFit (placesOf l) (c .maps) = rw (ap (λ (g : Given). g .places) (m .0)) at (q .0) in
-          let pools = encode-map poolRow (length (l .pools)) (c .maps .pools) (f .pools .is .wide) in
-          let base = p .above in
-          record {
-            window = p .window;
-            start = rw (m .1) (p .start);
-            above = omega arith;
-            aligned = rw (m .1) (p .aligned);
-            ascends = p .ascends;
-            lists = written-held l (c .maps) f;
-            whole = rw pools (rw (m .0) at (q .1 .whole));
-            last = rw pools (q .1 .is-last);
-            held = rw pools (q .1 .are-held);
-          }
+      let k = gone (t .to) (step-same i (t .word) armSize before) (t .step) in
+      rw (t .is) (rw (k .0) at (gone (t .to) (step-sound i (t .word) armSize before p) (t .step)))
 
--- ---- the same by number
+  pub turn-start : isGoing (turn g w m .walk .result) ≡ true → turn g w m .walk .progress .start ≡ w .progress .start
+  turn-start h =
+      let t = turn-onward g w m h in
+      rw (t .is) (gone (t .to) (step-same (decodeOf (t .word) (w .progress .address)) (t .word) armSize before) (t .step) .1)
+
+-- ---- the checks
+
+module _ (o : Options) (code starts : List ℕ) (w : Walk) (l : Lists) where
+  pub passed-sound : Passed o code starts w l → Sound (contextAt (givenBy o code starts l) w (mapsIn (w .counts) l))
+  passed-sound p = (held-fits (w .counts) l (p .lists), record { whole = p .whole; is-last = p .last; are-held = p .held })
 
 module _ (o : Options) (code starts : List ℕ) (w : Walk) (l : Lists) (number : numberAt o code starts w l ≡ 0) where
   abbrev here : Turned
@@ -178,15 +161,40 @@ module _ (o : Options) (code starts : List ℕ) (w : Walk) (l : Lists) (number :
   passed : Passed o code starts w l
   passed = number-passed o code starts w l number
 
+  fit : AllFit (placesOf l) (here .maps)
+  fit = turn-fits (givenBy o code starts l) w (mapsIn (w .counts) l) (passed-sound o code starts w l passed)
+
+  -- a turn that goes on leaves what passes the checks again
   pub turn-kept : isGoing (here .walk .result) ≡ true → numberAt o code starts (turned l here .walk) (turned l here .lists) ≡ 0
-  turn-kept h = passed-number o code starts (here .walk) (written l (here .maps)) (turn-passed o code starts w l passed h)
+  turn-kept h =
+      let g = givenBy o code starts l in
+      let m = mapsIn (w .counts) l in
+      let p = passed in
+      let start = turn-start g w m h in
+      let sound = turn-sound g w m (passed-sound o code starts w l p) h in
+      let counts = turn-counts g w m in
+      let pools = encode-map poolRow (length (l .pools)) (here .maps .pools) (fit .pools .is .wide) in
+      let past = turn-past g w m h in
+      let base = p .above in
+      passed-number o code starts (here .walk) (written l (here .maps))
+      (record {
+        window = p .window;
+        start = rw start (p .start);
+        above = omega arith;
+        aligned = rw start (p .aligned);
+        ascends = p .ascends;
+        lists = rw counts (written-held l (here .maps) fit);
+        whole = rw (counts, pools) (sound .1 .whole);
+        last = rw (counts, pools) (sound .1 .is-last);
+        held = rw (counts, pools) (sound .1 .are-held);
+      })
 
+  -- any turn leaves lists that hold its maps, and have their places
   pub turn-held : AllHeld (countsOf (here .maps)) (written l (here .maps)) × (mapsIn (countsOf (here .maps)) (written l (here .maps)) ≡ here .maps)
-  turn-held = let f = turn-fits o code starts w l passed in (written-held l (here .maps) f, written-maps l (here .maps) f)
+  turn-held = (written-held l (here .maps) fit, written-maps l (here .maps) fit)
 
-  -- the lists keep their places
   pub turn-places : placesOf (written l (here .maps)) ≡ placesOf l
-  turn-places = written-places l (here .maps) (turn-fits o code starts w l passed)
+  turn-places = written-places l (here .maps) fit
 
 -- ---- a begin that passed leaves a walk that passes
 

@@ -9,3 +9,5 @@ pub mod PoolLaws
 pub mod SoundLaws
 pub mod TurnLaws
 pub mod KeptLaws
+pub mod EndingLaws
+pub mod StepLaws
