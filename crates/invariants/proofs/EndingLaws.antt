@@ -11,7 +11,7 @@ use Rattle.context.specs.Context.{Given}
 use Rattle.context.specs.Turn.{Turned, contextAt, turn}
 use Rattle.stepper.specs.Calls.{isGoing}
 use Rattle.invariants.specs.Turns.{turnsFrom}
-use Rattle.invariants.proofs.KeptLaws.{turn-fits, turn-sound}
+use Rattle.invariants.proofs.KeptLaws.{sound-fits, sound-kept}
 use Rattle.invariants.proofs.SoundLaws.{AllFit, Sound}
 use Rattle.invariants.proofs.TurnLaws.{turn-onward, turn-past}
 use Rattle.invariants.proofs.WordLaws.{found-inside}
@@ -111,7 +111,7 @@ module _ (g : Given) where
           → (IsSound (next t) → goesOn (turnsFrom g n (next t)) ≡ true → IsSound (turnsFrom g n (next t)))
           → IsSound (pick b (turnsFrom g n (next t)) t)
       go false d e k more = p
-      go true true e k more = more (turn-sound g (t .walk) (t .maps) p e) k
+      go true true e k more = more (sound-kept g (t .walk) (t .maps) p e) k
       go true false e k more =
           let same = ap goesOn (ended-stays n (next t) e) in
           absurd (let z : _≡_ {A = ℕ} 0 1 = cc in omega arith)
@@ -124,5 +124,5 @@ module _ (g : Given) where
       go : (b d : Bool) → goesOn (next t) ≡ d → (IsSound (next t) → AllFit (g .places) (turnsFrom g n (next t) .maps))
           → AllFit (g .places) (pick b (turnsFrom g n (next t)) t .maps)
       go false d e more = p .0
-      go true true e more = more (turn-sound g (t .walk) (t .maps) p e)
-      go true false e more = rw (ended-stays n (next t) e) (turn-fits g (t .walk) (t .maps) p)
+      go true true e more = more (sound-kept g (t .walk) (t .maps) p e)
+      go true false e more = rw (ended-stays n (next t) e) (sound-fits g (t .walk) (t .maps) p)

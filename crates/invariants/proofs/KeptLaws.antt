@@ -131,28 +131,63 @@ module _ (g : Given) (w : Walk) (m : Maps) where
   word-fits p Missing = none-fits (g .places)
 
   -- any turn leaves maps that fit
-  pub turn-fits : Sound (contextAt g w m) → AllFit (g .places) (turn g w m .maps)
+  pub sound-fits : Sound (contextAt g w m) → AllFit (g .places) (turn g w m .maps)
   unfolding turn
-  turn-fits p = word-fits p (wordFrom (g .code) (g .options .base) (w .progress .address))
+  sound-fits p = word-fits p (wordFrom (g .code) (g .options .base) (w .progress .address))
 
-  -- one that goes on keeps what check 4 asks for, and its start
-  pub turn-sound : Sound (contextAt g w m) → isGoing (turn g w m .walk .result) ≡ true → Sound (contextAt g (turn g w m .walk) (turn g w m .maps))
-  turn-sound p h =
+  -- one that goes on keeps what check 4 asks for, and the start
+  pub sound-kept : Sound (contextAt g w m) → isGoing (turn g w m .walk .result) ≡ true → Sound (contextAt g (turn g w m .walk) (turn g w m .maps))
+  sound-kept p h =
       let t = turn-onward g w m h in
       let i = decodeOf (t .word) (w .progress .address) in
       let k = gone (t .to) (step-same i (t .word) armSize before) (t .step) in
       rw (t .is) (rw (k .0) at (gone (t .to) (step-sound i (t .word) armSize before p) (t .step)))
 
-  pub turn-start : isGoing (turn g w m .walk .result) ≡ true → turn g w m .walk .progress .start ≡ w .progress .start
-  turn-start h =
+  pub start-kept : isGoing (turn g w m .walk .result) ≡ true → turn g w m .walk .progress .start ≡ w .progress .start
+  start-kept h =
       let t = turn-onward g w m h in
       rw (t .is) (gone (t .to) (step-same (decodeOf (t .word) (w .progress .address)) (t .word) armSize before) (t .step) .1)
 
--- ---- the checks
+-- ---- a turn from a walk that passes the checks
 
-module _ (o : Options) (code starts : List ℕ) (w : Walk) (l : Lists) where
-  pub passed-sound : Passed o code starts w l → Sound (contextAt (givenBy o code starts l) w (mapsIn (w .counts) l))
-  passed-sound p = (held-fits (w .counts) l (p .lists), record { whole = p .whole; is-last = p .last; are-held = p .held })
+module _ (o : Options) (code starts : List ℕ) (w : Walk) (l : Lists) (p : Passed o code starts w l) where
+  abbrev given : Given
+  given = givenBy o code starts l
+
+  abbrev maps : Maps
+  maps = mapsIn (w .counts) l
+
+  abbrev after : Turned
+  after = turn given w maps
+
+  pub passed-sound : Sound (contextAt (givenBy o code starts l) w (mapsIn (w .counts) l))
+  passed-sound = (held-fits (w .counts) l (p .lists), record { whole = p .whole; is-last = p .last; are-held = p .held })
+
+  pub turn-fits : AllFit (placesOf l) (turn (givenBy o code starts l) w (mapsIn (w .counts) l) .maps)
+  turn-fits = sound-fits given w maps passed-sound
+
+  pub turn-passed : isGoing (turn (givenBy o code starts l) w (mapsIn (w .counts) l) .walk .result) ≡ true
+      → Passed o code starts (after .walk) (written l (after .maps))
+  turn-passed h =
+      let start = start-kept given w maps h in
+      let sound = sound-kept given w maps passed-sound h in
+      let counts = turn-counts given w maps in
+      let pools = encode-map poolRow (length (l .pools)) (after .maps .pools) (turn-fits .pools .is .wide) in
+      let past = turn-past given w maps h in
+      let base = p .above in
+      record {
+        window = p .window;
+        start = rw start (p .start);
+        above = omega arith;
+        aligned = rw start (p .aligned);
+        ascends = p .ascends;
+        lists = rw counts (written-held l (after .maps) turn-fits);
+        whole = rw (counts, pools) (sound .1 .whole);
+        last = rw (counts, pools) (sound .1 .is-last);
+        held = rw (counts, pools) (sound .1 .are-held);
+      }
+
+-- ---- the same by number
 
 module _ (o : Options) (code starts : List ℕ) (w : Walk) (l : Lists) (number : numberAt o code starts w l ≡ 0) where
   abbrev here : Turned
@@ -162,32 +197,11 @@ module _ (o : Options) (code starts : List ℕ) (w : Walk) (l : Lists) (number :
   passed = number-passed o code starts w l number
 
   fit : AllFit (placesOf l) (here .maps)
-  fit = turn-fits (givenBy o code starts l) w (mapsIn (w .counts) l) (passed-sound o code starts w l passed)
+  fit = turn-fits o code starts w l passed
 
   -- a turn that goes on leaves what passes the checks again
   pub turn-kept : isGoing (here .walk .result) ≡ true → numberAt o code starts (turned l here .walk) (turned l here .lists) ≡ 0
-  turn-kept h =
-      let g = givenBy o code starts l in
-      let m = mapsIn (w .counts) l in
-      let p = passed in
-      let start = turn-start g w m h in
-      let sound = turn-sound g w m (passed-sound o code starts w l p) h in
-      let counts = turn-counts g w m in
-      let pools = encode-map poolRow (length (l .pools)) (here .maps .pools) (fit .pools .is .wide) in
-      let past = turn-past g w m h in
-      let base = p .above in
-      passed-number o code starts (here .walk) (written l (here .maps))
-      (record {
-        window = p .window;
-        start = rw start (p .start);
-        above = omega arith;
-        aligned = rw start (p .aligned);
-        ascends = p .ascends;
-        lists = rw counts (written-held l (here .maps) fit);
-        whole = rw (counts, pools) (sound .1 .whole);
-        last = rw (counts, pools) (sound .1 .is-last);
-        held = rw (counts, pools) (sound .1 .are-held);
-      })
+  turn-kept h = passed-number o code starts (here .walk) (written l (here .maps)) (turn-passed o code starts w l passed h)
 
   -- any turn leaves lists that hold its maps, and have their places
   pub turn-held : AllHeld (countsOf (here .maps)) (written l (here .maps)) × (mapsIn (countsOf (here .maps)) (written l (here .maps)) ≡ here .maps)
