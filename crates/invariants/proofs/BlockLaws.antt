@@ -30,9 +30,14 @@ use Rattle.base.specs.declared.word.Word.{Word}
 use Rattle.base.specs.declared.word.Word.the-variants.{Found as W-Found, Missing}
 use Rattle.base.specs.Choice.{pick, both, either}
 use Rattle.base.specs.Words.{wordFrom}
-use Rattle.context.specs.Blocks
-use Rattle.context.specs.Blocks.{other, skipPool, skipInlineTable, inlineTableAt, endOf, jumpTable, afterJump, raisedToTable, illegalCode, afterCode, branchOutside, marked, markPool, forgetWritten, finalReturn, isTailCall, isLongBranchDestination, callTo, arm, thumb, entryAfterBranch, pastGap, toLabel, pastPools, raisesLabel, labelRaised, handleLabel, isOtherFunction, branches, branched, branch, loaded, poolLoad, tabled, afterInline, inlineTable, calledAs, functionCall, checkDefined, isIn, fromReturn, toReturn, handleInsInner, passed, handleIns}
-use Rattle.context.specs.Context.{Context, Step, on, goes, ends, refuses, _▸_, goingTo, withProgress, withMachines, withRegisters, withMaps, raising, tableTo, poolTo, defining, moving, labelsTo, poolsTo, jumpTablesTo, inlineTablesTo, callsTo, labelRow, poolRow, tableRow, callRow}
+use Rattle.context.specs.Blocks.{other, skipPool, skipInlineTable, inlineTableAt, endOf, jumpTable, afterJump, raisedToTable, illegalCode}
+use Rattle.context.specs.Blocks.{afterCode, branchOutside, marked, markPool, forgetWritten, finalReturn, isTailCall, isLongBranchDestination}
+use Rattle.context.specs.Blocks.{callTo, arm, thumb, entryAfterBranch, pastGap, toLabel, pastPools, raisesLabel, labelRaised, handleLabel}
+use Rattle.context.specs.Blocks.{isOtherFunction, branches, branched, branch, loaded, poolLoad, tabled, afterInline, inlineTable, calledAs}
+use Rattle.context.specs.Blocks.{functionCall, checkDefined, isIn, fromReturn, toReturn, handleInsInner, passed, handleIns}
+use Rattle.context.specs.Context.{Context, Maps, Step, on, goes, ends, refuses, _▸_, goingTo, withProgress, withMachines, withRegisters, withMaps}
+use Rattle.context.specs.Context.{raising, tableTo, poolTo, defining, moving, labelsTo, poolsTo, jumpTablesTo, inlineTablesTo, callsTo, labelRow}
+use Rattle.context.specs.Context.{poolRow, tableRow, callRow}
 use Rattle.predicates.specs.declared.Callee.{Callee}
 use Rattle.predicates.specs.declared.Callee.the-variants.{Nothing as No-Call, Arm, Thumb}
 use Rattle.predicates.specs.Predicates.{isBranch, isBx, isEntryInstruction, isPoolLoad, poolAddress, calledBy, asPrevious}
@@ -45,8 +50,9 @@ use Rattle.rows.specs.declared.Found.the-variants.{At as F-At, Missing as F-Mis
 use Rattle.rows.specs.declared.Gap.{Gap}
 use Rattle.rows.specs.declared.Gap.the-variants.{At as G-At, Beyond as G-Beyond}
 use Rattle.rows.proofs.RunLaws.{gap-at}
-use Rattle.walk.specs.declared.Machines.{Machines}
 use Rattle.rows.proofs.OrderLaws.{both-first, both-second}
+use Rattle.walk.specs.declared.Counts.{Counts}
+use Rattle.walk.specs.declared.Machines.{Machines}
 use Rattle.walk.specs.Checking.{undefinedRegister}
 
 -- what a step comes to: P of the context that the next block gets, G of the one that the next turn gets, E of an end
@@ -74,6 +80,19 @@ pub data Skips (c : Context) : ℕ → Type 0 where
   pool : stands-in (c .maps .pools) (c .progress .address) ≡ true → Skips c (c .progress .address + 4)
   table : (t : List ℕ) → inlineTableAt (c .progress .address) (c .maps .«inline_tables») ≡ some t → Skips c (endOf t)
 
+-- an insertion that fits keeps P
+abbrev pub Enters : (Context → Type 0) → ℕ → (Counts → ℕ) → (Maps → List (List ℕ)) → (List (List ℕ) → Maps → Maps) → Type 0
+Enters P stride places of to =
+    (row : List ℕ) (c : Context) → length row ≡ stride → fits stride (places (c .given .places)) (inserted keyOf row (of (c .maps))) ≡ true → P c
+    → P (withMaps (to (inserted keyOf row (of (c .maps))) (c .maps)) c)
+
+-- a register with a pool of the code, which is entered
+abbrev pub loadedFrom : Ins → ℕ → ℕ → Context → Context
+loadedFrom i a value c =
+    withProgress (poolTo a (c .progress))
+    (withMaps (poolsTo (inserted keyOf (a ∷ value ∷ other ∷ []) (c .maps .pools)) (c .maps))
+    (withRegisters (holding (c .registers) (i .rd) value a) c))
+
 -- the assignments of a step, and a property that each of them keeps; and what it comes to where the step goes on or ends
 pub record Kept (i : Ins) (size : ℕ) (P G : Context → Type 0) (E : ℕ → Context → Type 0) : Type 0 where
   pub machines : (m : Machines) (c : Context) → P c → P (withMachines m c)
@@ -84,18 +103,13 @@ pub record Kept (i : Ins) (size : ℕ) (P G : Context → Type 0) (E : ℕ → C
   pub marks : (a : ℕ) (c : Context) → P c → P (withMaps (poolsTo (marked a (c .maps .pools)) (c .maps)) c)
   -- past pools: to a label, or to the first address that is no pool
   pub jumps : (n : ℕ) (c : Context) → (c .next ≤ n) ⊎ (c .progress .address + size ≤ n) → P c → P (goingTo n c)
-  pub labels : (row : List ℕ) (c : Context) → length row ≡ labelRow → fits labelRow (c .given .places .labels) (inserted keyOf row (c .maps .labels)) ≡ true
-      → P c → P (withMaps (labelsTo (inserted keyOf row (c .maps .labels)) (c .maps)) c)
-  pub jumpTables : (row : List ℕ) (c : Context) → length row ≡ tableRow → fits tableRow (c .given .places .«jump_tables») (inserted keyOf row (c .maps .«jump_tables»)) ≡ true
-      → P c → P (withMaps (jumpTablesTo (inserted keyOf row (c .maps .«jump_tables»)) (c .maps)) c)
-  pub inlineTables : (row : List ℕ) (c : Context) → length row ≡ tableRow → fits tableRow (c .given .places .«inline_tables») (inserted keyOf row (c .maps .«inline_tables»)) ≡ true
-      → P c → P (withMaps (inlineTablesTo (inserted keyOf row (c .maps .«inline_tables»)) (c .maps)) c)
-  pub calls : (row : List ℕ) (c : Context) → length row ≡ callRow → fits callRow (c .given .places .calls) (inserted keyOf row (c .maps .calls)) ≡ true
-      → P c → P (withMaps (callsTo (inserted keyOf row (c .maps .calls)) (c .maps)) c)
+  pub labels : Enters P labelRow (λ n. n .labels) (λ m. m .labels) labelsTo
+  pub jumpTables : Enters P tableRow (λ n. n .«jump_tables») (λ m. m .«jump_tables») jumpTablesTo
+  pub inlineTables : Enters P tableRow (λ n. n .«inline_tables») (λ m. m .«inline_tables») inlineTablesTo
+  pub calls : Enters P callRow (λ n. n .calls) (λ m. m .calls) callsTo
   pub loads : (a value : ℕ) (c : Context) → wordFrom (c .given .code) (c .given .options .base) a ≡ W-Found value
       → fits poolRow (c .given .places .pools) (inserted keyOf (a ∷ value ∷ other ∷ []) (c .maps .pools)) ≡ true
-      → P c
-      → P (withProgress (poolTo a (c .progress)) (withMaps (poolsTo (inserted keyOf (a ∷ value ∷ other ∷ []) (c .maps .pools)) (c .maps)) (withRegisters (holding (c .registers) (i .rd) value a) c)))
+      → P c → P (loadedFrom i a value c)
   pub goes : (c : Context) → P c → G c
   pub ends : (c : Context) → P c → E (c .progress .address + size) c
   pub entry : isEntryInstruction i ≡ true → (c : Context) → P c → E (c .progress .address) c
@@ -214,7 +228,10 @@ module _ (i : Ins) (size : ℕ) (P G : Context → Type 0) (E : ℕ → Context 
 
   label-kept : (f : Found) (c : Context) → atOrAbove (c .next) (c .maps .labels) ≡ f → P c → Meet (toLabel i size f c)
   label-kept (F-At n) c e p = is-on (k .jumps _ c (inl (label-above (c .next) (c .maps .labels) n e)) p)
-  label-kept F-Missing c e p = chosen (ltb (c .progress .address) (i .target)) (λ _. has-ended (k .ends c p)) (λ _. gap-kept (gapFrom (stands-in (c .maps .pools)) (c .progress .address + size)) c refl p)
+  label-kept F-Missing c e p =
+      chosen (ltb (c .progress .address) (i .target))
+      (λ _. has-ended (k .ends c p))
+      (λ _. gap-kept (gapFrom (stands-in (c .maps .pools)) (c .progress .address + size)) c refl p)
 
   pub pastPools-kept : (c : Context) → P c → Meet (pastPools i size c)
   unfolding pastPools
@@ -319,7 +336,8 @@ module _ (i : Ins) (size : ℕ) (P G : Context → Type 0) (E : ℕ → Context 
       markPool-kept)
       forgetWritten-kept
 
-  pub handleInsInner-kept : (word : ℕ) (c : Context) → P c → ((n : ℕ) → Skips c n → G (goingTo n c)) → Meets (λ _. ⊥) G E (handleInsInner i word size c)
+  handleInsInner-kept : (word : ℕ) (c : Context) → P c → ((n : ℕ) → Skips c n → G (goingTo n c))
+      → Meets (λ _. ⊥) G E (handleInsInner i word size c)
   unfolding handleInsInner
   handleInsInner-kept word c p g = chained (toReturn-kept c p g) (λ c p. fromReturn-kept word _ _ c p)
 

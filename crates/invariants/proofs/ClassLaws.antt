@@ -12,7 +12,8 @@ use Rattle.arm.specs.declared.Ins.{Ins}
 use Rattle.classes.specs.Class.{classNo, is}
 use Rattle.arm.specs.Ins.{isConditional}
 use Rattle.predicates.specs.declared.Previous.{Previous}
-use Rattle.predicates.specs.Predicates.{hasLr, isEntryInstruction, isBranch, isOffPc, isPoolLoad, isMovPc, isLdmPc, isPopPc, isBranchBack, isSubsPcLr, isLdrPc, isEorPc, isAddPc, isReturnAlways, isReturnAfter, isReturn}
+use Rattle.predicates.specs.Predicates.{hasLr, isEntryInstruction, isBranch, isOffPc, isPoolLoad, isMovPc, isLdmPc, isPopPc, isBranchBack}
+use Rattle.predicates.specs.Predicates.{isSubsPcLr, isLdrPc, isEorPc, isAddPc, isReturnAlways, isReturnAfter, isReturn}
 
 pub same : (b : Bool) → pick b false false ≡ false
 same true = refl

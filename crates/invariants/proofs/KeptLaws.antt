@@ -212,7 +212,8 @@ module _ (o : Options) (code starts : List ℕ) (w : Walk) (l : Lists) (number :
 
 -- ---- a begin that passed leaves a walk that passes
 
-pub begun-passed : (o : Options) (a : ℕ) (code starts : List ℕ) (l : Lists) → Begins o a code starts → Passed o code starts (begun a (countsOf noMaps)) (zeroed l)
+pub begun-passed : (o : Options) (a : ℕ) (code starts : List ℕ) (l : Lists) → Begins o a code starts
+    → Passed o code starts (begun a (countsOf noMaps)) (zeroed l)
 unfolding begun mapIn areWhole areHeld lastKey isInCode
 begun-passed o a code starts l b = record {
   window = b .window;

@@ -28,7 +28,8 @@ use Rattle.rows.specs.declared.Gap.the-variants.{At as G-At, Beyond as G-Beyond
 use Rattle.rows.proofs.RowLaws.{stands-inserted}
 use Rattle.rows.proofs.OrderLaws.{both-second}
 use Rattle.invariants.proofs.TargetLaws.{branch-past}
-use Rattle.invariants.proofs.BlockLaws.{Meets, is-on, is-refused, Kept, Skips, pool, table, handleIns-kept, pastPools-kept, chained, chosen, stayed, gone, ended}
+use Rattle.invariants.proofs.BlockLaws.{Meets, is-on, is-refused, Kept, Skips, pool, table, handleIns-kept, pastPools-kept, chained, chosen}
+use Rattle.invariants.proofs.BlockLaws.{stayed, gone, ended}
 
 -- a table holds what lies before its end
 pub table-past : (a : ℕ) (ts : List (List ℕ)) (t : List ℕ) → inlineTableAt a ts ≡ some t → a < endOf t
@@ -94,7 +95,8 @@ module _ (i : Ins) (word size : ℕ) (c : Context) where
       none-skip n (pool e) = absurd (let z : _≡_ {A = ℕ} 0 1 = cc in omega arith)
       none-skip n (table t e) = absurd (let z : _≡_ {A = ℕ} 0 1 = cc in omega arith)
 
-  comes : 0 < size → Meets (λ _. ⊥) (λ d. c .progress .address < d .progress .address) (λ e d. EndsAt i size (c .progress .address) e) (handleIns i word size c)
+  comes : 0 < size
+      → Meets (λ _. ⊥) (λ d. c .progress .address < d .progress .address) (λ e d. EndsAt i size (c .progress .address) e) (handleIns i word size c)
   comes s =
       let a = c .progress .address in
       handleIns-kept i size (Ahead i size a) (λ d. a < d .progress .address) (λ e d. EndsAt i size a e)
@@ -111,7 +113,8 @@ pub never-back : (i : Ins) (size : ℕ) (c c' : Context) → c .next ≡ c .prog
     → c .progress .address + size ≤ c' .next
 never-back i size c c' at e =
     let a = c .progress .address in
-    stayed c' (pastPools-kept i size (Ahead i size a) (λ d. Unit {0}) (λ e d. EndsAt i size a e) (ahead-kept i size a _ (λ d h. tt)) c (refl, omega arith)) e .1
+    let kept = ahead-kept i size a (λ d. Unit {0}) (λ d h. tt) in
+    stayed c' (pastPools-kept i size (Ahead i size a) (λ d. Unit {0}) (λ e d. EndsAt i size a e) kept c (refl, omega arith)) e .1
 
 -- ---- handle_label's arm "no further label, forward branch"
 
@@ -131,7 +134,8 @@ label-found : (x y : ℕ) (m : List (List ℕ)) → stands-in m x ≡ true → y
 unfolding atOrAbove
 label-found x y m e l h = let f = lt-ltb _ _ (rank-within x y m e l) in let z : _≡_ {A = ℕ} 0 1 = cc (rw f at h) in omega arith
 
-module _ (word : ℕ) (c : Context) (at : c .next ≡ c .progress .address + armSize) (is-branch : isBranch (decodeOf word (c .progress .address)) ≡ true) where
+module _ (word : ℕ) (c : Context) (at : c .next ≡ c .progress .address + armSize)
+    (is-branch : isBranch (decodeOf word (c .progress .address)) ≡ true) where
   abbrev i : Ins
   i = decodeOf word (c .progress .address)
 
@@ -148,14 +152,18 @@ module _ (word : ℕ) (c : Context) (at : c .next ≡ c .progress .address + arm
   gap-goes (G-At n) d = is-on tt
   gap-goes G-Beyond d = is-refused
 
+  -- and one ahead is found past the pools
+  ahead-found : (d : Context) → Labelled d → d .progress .address < i .target → atOrAbove (d .next) (d .maps .labels) ≡ F-Missing → ⊥
+  ahead-found d p ahead e =
+      let here = p .address in
+      let past = branch-past word (c .progress .address) is-branch (omega arith) in
+      label-found (i .target) (d .next) (d .maps .labels) (p .target) (omega (arith, p .next)) e
+
   label-goes : (f : Found) (d : Context) → atOrAbove (d .next) (d .maps .labels) ≡ f → Labelled d → Unended (toLabel i armSize f d)
   label-goes (F-At k) d e p = is-on tt
   label-goes F-Missing d e p =
       chosen (ltb (d .progress .address) (i .target))
-      (λ h.
-      let here = p .address in
-      let ahead = ltb-true (d .progress .address) (i .target) h in
-      absurd (label-found (i .target) (d .next) (d .maps .labels) (p .target) (omega (arith, p .next, branch-past word (c .progress .address) is-branch (omega arith))) e))
+      (λ h. absurd (ahead-found d p (ltb-true (d .progress .address) (i .target) h) e))
       (λ h. gap-goes (gapFrom (stands-in (d .maps .pools)) (d .progress .address + armSize)) d)
 
   pools-go : (d : Context) → Labelled d → Unended (pastPools i armSize d)

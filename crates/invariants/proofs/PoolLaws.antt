@@ -38,7 +38,8 @@ module _ (base code : ℕ) where
   whole-stands [] x e h = absurd (let z : _≡_ {A = ℕ} 0 1 = cc in omega arith)
   whole-stands (r ∷ rs) x e h = step (ltb (keyOf r) x) (whole-stands rs x (both-second (isWhole base code (keyOf r)) _ e)) h
     where
-      step : (b : Bool) → (stands-in rs x ≡ true → isWhole base code x ≡ true) → pick b (stands-in rs x) (eqb (keyOf r) x) ≡ true → isWhole base code x ≡ true
+      step : (b : Bool) → (stands-in rs x ≡ true → isWhole base code x ≡ true) → pick b (stands-in rs x) (eqb (keyOf r) x) ≡ true
+          → isWhole base code x ≡ true
       step true next h = next h
       step false next h = rw (eqb-true (keyOf r) x h) at (both-first (isWhole base code (keyOf r)) _ e)
 
@@ -81,7 +82,8 @@ stands-last (r ∷ []) x e h = step (ltb (keyOf r) x) h
     step false h = let same : keyOf r ≡ x = eqb-true _ _ h in omega arith
 stands-last (r ∷ s ∷ rs) x e h = step (ltb (keyOf r) x) (stands-last (s ∷ rs) x (rising-ascending (keyOf r) (map keyOf (s ∷ rs)) e)) h
   where
-    step : (b : Bool) → (stands-in (s ∷ rs) x ≡ true → x ≤ lastOf (s ∷ rs)) → pick b (stands-in (s ∷ rs) x) (eqb (keyOf r) x) ≡ true → x ≤ lastOf (s ∷ rs)
+    step : (b : Bool) → (stands-in (s ∷ rs) x ≡ true → x ≤ lastOf (s ∷ rs)) → pick b (stands-in (s ∷ rs) x) (eqb (keyOf r) x) ≡ true
+        → x ≤ lastOf (s ∷ rs)
     step true next h = next h
     step false next h = let same : keyOf r ≡ x = eqb-true _ _ h in let up = last-above (keyOf r) s rs e in omega arith
 
@@ -135,7 +137,8 @@ last-inserted row (r ∷ s ∷ rs) e =
 abbrev isHeld : List (List ℕ) → ℕ → Bool
 isHeld m s = either (eqb s 0) (stands-in m s)
 
-pub held-more : (m n : List (List ℕ)) → ((x : ℕ) → stands-in m x ≡ true → stands-in n x ≡ true) → (ss : List ℕ) → areHeld ss m ≡ true → areHeld ss n ≡ true
+pub held-more : (m n : List (List ℕ)) → ((x : ℕ) → stands-in m x ≡ true → stands-in n x ≡ true) → (ss : List ℕ) → areHeld ss m ≡ true
+    → areHeld ss n ≡ true
 unfolding areHeld
 held-more m n more [] e = refl
 held-more m n more (s ∷ ss) e =

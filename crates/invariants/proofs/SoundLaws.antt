@@ -14,7 +14,7 @@ use Rattle.base.specs.declared.word.Word.the-variants.{Found as W-Found}
 use Rattle.base.specs.Choice.{pick}
 use Rattle.base.specs.Words.{wordFrom}
 use Rattle.context.specs.Blocks.{other, call, marked, handleIns}
-use Rattle.context.specs.Context.{Maps, Given, Context, goes, ends, labelRow, poolRow, tableRow, callRow, withProgress, withMaps, withRegisters, poolTo, poolsTo}
+use Rattle.context.specs.Context.{Maps, Given, Context, goes, ends, labelRow, poolRow, tableRow, callRow}
 use Rattle.registers.specs.Registers.{forgotten, holding}
 use Rattle.rows.specs.Order.{ascending}
 use Rattle.rows.specs.Rows.{rank, stands, inserted}
@@ -22,8 +22,9 @@ use Rattle.rows.specs.Map.{keyOf, stands-in, Map, fits}
 use Rattle.rows.proofs.RowLaws.{ascending-kept, inserted-length, stands-inserted}
 use Rattle.validity.specs.Validity.{isWhole, areWhole, areHeld}
 use Rattle.walk.specs.declared.Counts.{Counts}
-use Rattle.invariants.proofs.BlockLaws.{Meets, Kept, moved, handleIns-kept}
-use Rattle.invariants.proofs.PoolLaws.{wide-inserted, whole-stands, whole-inserted, lastOf, stands-last, last-inserted, held-more, held-cleared, held-set}
+use Rattle.invariants.proofs.BlockLaws.{Meets, Kept, loadedFrom, moved, handleIns-kept}
+use Rattle.invariants.proofs.PoolLaws.{wide-inserted, whole-stands, whole-inserted, lastOf, stands-last, last-inserted, held-more}
+use Rattle.invariants.proofs.PoolLaws.{held-cleared, held-set}
 use Rattle.invariants.proofs.WordLaws.{found-inside}
 
 -- ---- a map, and room for it in so many places
@@ -134,8 +135,7 @@ module _ (i : Ins) (size : ℕ) where
 
   loads-kept : (a value : ℕ) (c : Context) → wordFrom (c .given .code) (c .given .options .base) a ≡ W-Found value
       → fits poolRow (c .given .places .pools) (inserted keyOf (a ∷ value ∷ other ∷ []) (c .maps .pools)) ≡ true
-      → Sound c
-      → Sound (withProgress (poolTo a (c .progress)) (withMaps (poolsTo (inserted keyOf (a ∷ value ∷ other ∷ []) (c .maps .pools)) (c .maps)) (withRegisters (holding (c .registers) (i .rd) value a) c)))
+      → Sound c → Sound (loadedFrom i a value c)
   unfolding holding
   loads-kept a value c found room p =
       let row : List ℕ = a ∷ value ∷ other ∷ [] in

@@ -72,7 +72,8 @@ module _ (o : Options) (code starts : List ℕ) where
   turnAfter s = turn (givenBy o code starts (s .lists)) (s .walk) (mapsIn (s .walk .counts) (s .lists))
 
   -- a step from a walk that passes the checks
-  pub step-turns : (s : After) → isGoing (s .walk .result) ≡ true → numberAt o code starts (s .walk) (s .lists) ≡ 0 → stepped s ≡ turned (s .lists) (turnAfter s)
+  pub step-turns : (s : After) → isGoing (s .walk .result) ≡ true → numberAt o code starts (s .walk) (s .lists) ≡ 0
+      → stepped s ≡ turned (s .lists) (turnAfter s)
   unfolding step
   step-turns s on number = rw (on, eq-eqb (numberAt o code starts (s .walk) (s .lists)) 0 number)
 
@@ -100,7 +101,9 @@ module _ (o : Options) (code starts : List ℕ) where
   }
   turns-on (suc n) s l t on number places same =
       subst (λ (x : After). Turns (stepsFrom o code starts n x) l (turnsFrom (givenBy o code starts l) (suc n) t)) (sym (step-turns s on number))
-      (rw still (go (isGoing (turnAfter s .walk .result)) refl (turns-on n (turned (s .lists) (turnAfter s)) l (turn (givenBy o code starts l) (t .walk) (t .maps)))))
+      (rw still
+      (go (isGoing (turnAfter s .walk .result)) refl
+      (turns-on n (turned (s .lists) (turnAfter s)) l (turn (givenBy o code starts l) (t .walk) (t .maps)))))
     where
       g : Given
       g = givenBy o code starts l
@@ -116,7 +119,8 @@ module _ (o : Options) (code starts : List ℕ) where
       read : turnedOf (turned (s .lists) (turnAfter s)) ≡ turn g (t .walk) (t .maps)
       read =
           ap (λ (m : Maps). record { walk = turnAfter s .walk; maps = m })
-          (ap (λ (n : Counts). mapsIn n (written (s .lists) (turnAfter s .maps))) (turn-counts (givenBy o code starts (s .lists)) (s .walk) (mapsIn (s .walk .counts) (s .lists)))
+          (ap (λ (n : Counts). mapsIn n (written (s .lists) (turnAfter s .maps)))
+          (turn-counts (givenBy o code starts (s .lists)) (s .walk) (mapsIn (s .walk .counts) (s .lists)))
           ∙ turn-held o code starts (s .walk) (s .lists) number .1)
           ∙ turns
 

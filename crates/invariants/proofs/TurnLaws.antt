@@ -70,7 +70,8 @@ module _ (g : Given) (w : Walk) (m : Maps) where
           omega arith)
       settle word f (refuses n r) e h = absurd (let z : _≡_ {A = ℕ} 0 1 = cc in omega arith)
 
-      find : (x : Word) → wordFrom (g .code) (g .options .base) (w .progress .address) ≡ x → isGoing (turnAt x before .walk .result) ≡ true → Onward g w m
+      find : (x : Word) → wordFrom (g .code) (g .options .base) (w .progress .address) ≡ x → isGoing (turnAt x before .walk .result) ≡ true
+          → Onward g w m
       find (W-Found word) f h = settle word f (handleIns (decodeOf word (w .progress .address)) word armSize before) refl h
       find Missing f h = absurd (let z : _≡_ {A = ℕ} 0 1 = cc in omega arith)
 
