@@ -31,7 +31,8 @@ use Rattle.base.specs.declared.word.Word.the-variants.{Found as W-Found, Missin
 use Rattle.base.specs.Choice.{pick, both, either}
 use Rattle.base.specs.Words.{wordFrom}
 use Rattle.context.specs.Blocks.{other, skipPool, skipInlineTable, inlineTableAt, endOf, jumpTable, afterJump, raisedToTable, illegalCode}
-use Rattle.context.specs.Blocks.{afterCode, branchOutside, marked, markPool, forgetWritten, finalReturn, isTailCall, isLongBranchDestination}
+use Rattle.context.specs.Blocks.{afterCode, branchOutside, inConditionalBlock, marked, markPool, forgetWritten, finalReturn, isTailCall}
+use Rattle.context.specs.Blocks.{isLongBranchDestination}
 use Rattle.context.specs.Blocks.{callTo, arm, thumb, entryAfterBranch, pastGap, toLabel, pastPools, raisesLabel, labelRaised, handleLabel}
 use Rattle.context.specs.Blocks.{isOtherFunction, branches, branched, branch, loaded, poolLoad, tabled, afterInline, inlineTable, calledAs}
 use Rattle.context.specs.Blocks.{functionCall, checkDefined, isIn, fromReturn, toReturn, handleInsInner, passed, handleIns}
@@ -40,7 +41,7 @@ use Rattle.context.specs.Context.{raising, tableTo, poolTo, defining, moving, l
 use Rattle.context.specs.Context.{poolRow, tableRow, callRow}
 use Rattle.predicates.specs.declared.Callee.{Callee}
 use Rattle.predicates.specs.declared.Callee.the-variants.{Nothing as No-Call, Arm, Thumb}
-use Rattle.predicates.specs.Predicates.{isBranch, isBx, isEntryInstruction, isPoolLoad, poolAddress, calledBy, asPrevious}
+use Rattle.predicates.specs.Predicates.{isBranch, isBx, isReturn, isEntryInstruction, isPoolLoad, poolAddress, calledBy, asPrevious}
 use Rattle.registers.specs.Registers.{forgotten, holding, sourceOf}
 use Rattle.rows.specs.Rows.{rank, inserted}
 use Rattle.rows.specs.Map.{keyOf, stands-in, atOrAbove, fits}
@@ -101,8 +102,6 @@ pub record Kept (i : Ins) (size : ℕ) (P G : Context → Type 0) (E : ℕ → C
   pub defines : (d : ℕ) (c : Context) → P c → P (withProgress (defining d (c .progress)) c)
   pub forgets : (c : Context) → P c → P (withRegisters (forgotten (c .registers) (i .defs)) c)
   pub marks : (a : ℕ) (c : Context) → P c → P (withMaps (poolsTo (marked a (c .maps .pools)) (c .maps)) c)
-  -- past pools: to a label, or to the first address that is no pool
-  pub jumps : (n : ℕ) (c : Context) → (c .next ≤ n) ⊎ (c .progress .address + size ≤ n) → P c → P (goingTo n c)
   pub labels : Enters P labelRow (λ n. n .labels) (λ m. m .labels) labelsTo
   pub jumpTables : Enters P tableRow (λ n. n .«jump_tables») (λ m. m .«jump_tables») jumpTablesTo
   pub inlineTables : Enters P tableRow (λ n. n .«inline_tables») (λ m. m .«inline_tables») inlineTablesTo
@@ -113,6 +112,10 @@ pub record Kept (i : Ins) (size : ℕ) (P G : Context → Type 0) (E : ℕ → C
   pub goes : (c : Context) → P c → G c
   pub ends : (c : Context) → P c → E (c .progress .address + size) c
   pub entry : isEntryInstruction i ≡ true → (c : Context) → P c → E (c .progress .address) c
+
+-- the jump past pools, which the branch alone makes, keeps P: to a label, or to the first address that is no pool
+abbrev pub Jumps : ℕ → (Context → Type 0) → Type 0
+Jumps size P = (n : ℕ) (c : Context) → (c .next ≤ n) ⊎ (c .progress .address + size ≤ n) → P c → P (goingTo n c)
 
 -- ---- a label past pools is not below the parser's address
 
@@ -137,6 +140,14 @@ label-above x m k e = step (ltb (rank keyOf x m) (length m)) refl e
     step false f e = let z : _≡_ {A = ℕ} 0 1 = cc in absurd (omega arith)
 
 -- ---- what each block keeps
+
+-- a step's blocks before the branch
+unfoldable pub beforeBranch : Ins → ℕ → ℕ → Context → Step
+beforeBranch i word size c =
+    toReturn i c
+    ▸ (λ c.
+    finalReturn i word size (inConditionalBlock c) (isReturn (c .progress .address) i (c .progress .previous)) c
+    ▸ entryAfterBranch i (inConditionalBlock c))
 
 module _ (i : Ins) (size : ℕ) (P G : Context → Type 0) (E : ℕ → Context → Type 0) (k : Kept i size P G E) where
   abbrev Meet : Step → Type 0
@@ -222,52 +233,6 @@ module _ (i : Ins) (size : ℕ) (P G : Context → Type 0) (E : ℕ → Context 
       (λ e. has-ended (k .entry (both-first (isEntryInstruction i) _ (both-second (ltb (c .progress .start) (c .progress .address)) _ e)) c p))
       (λ _. is-on p)
 
-  gap-kept : (g : Gap) (c : Context) → gapFrom (stands-in (c .maps .pools)) (c .progress .address + size) ≡ g → P c → Meet (pastGap g c)
-  gap-kept (G-At n) c e p = is-on (k .jumps n c (inr (omega (arith, gap-at _ _ n e .is))) p)
-  gap-kept G-Beyond c e p = is-refused
-
-  label-kept : (f : Found) (c : Context) → atOrAbove (c .next) (c .maps .labels) ≡ f → P c → Meet (toLabel i size f c)
-  label-kept (F-At n) c e p = is-on (k .jumps _ c (inl (label-above (c .next) (c .maps .labels) n e)) p)
-  label-kept F-Missing c e p =
-      chosen (ltb (c .progress .address) (i .target))
-      (λ _. has-ended (k .ends c p))
-      (λ _. gap-kept (gapFrom (stands-in (c .maps .pools)) (c .progress .address + size)) c refl p)
-
-  pub pastPools-kept : (c : Context) → P c → Meet (pastPools i size c)
-  unfolding pastPools
-  pastPools-kept c p =
-      chosen (stands-in (c .maps .pools) (c .progress .address + size))
-      (λ _. label-kept (atOrAbove (c .next) (c .maps .labels)) c refl p)
-      (λ _. is-on p)
-
-  raised-label : (block : Bool) (c : Context) → P c → P (labelRaised i block c)
-  unfolding labelRaised
-  raised-label block c p = step (raisesLabel i block c)
-    where
-      step : (b : Bool) → P (pick b (withProgress (raising (i .target) (c .progress)) c) c)
-      step true = k .raises (i .target) c p
-      step false = p
-
-  handleLabel-kept : (block : Bool) (c : Context) → P c → Meet (handleLabel i size block c)
-  unfolding handleLabel
-  handleLabel-kept block c p =
-      chained
-      (chosen _ (λ e. is-on (k .labels (i .target ∷ []) c refl e p)) (λ _. is-refused))
-      (λ c p. pastPools-kept _ (raised-label block c p))
-
-  branches-kept : (word : ℕ) (block : Bool) (c : Context) → P c → Meet (branches i word size block c)
-  unfolding branches
-  branches-kept word block c p =
-      chosen (isIn (c .given .options .«module_start») (c .given .options .«module_end») (i .target))
-      (λ _. chosen (isOtherFunction i c)
-      (λ _. chosen (both (not (isConditional (i .cond))) (not block)) (λ _. has-ended (k .ends c p)) (λ _. call-kept word arm c p))
-      (λ _. handleLabel-kept block c p))
-      (λ _. call-kept word arm c p)
-
-  branch-kept : (word : ℕ) (block : Bool) (c : Context) → P c → Meet (branch i word size block c)
-  unfolding branch branched
-  branch-kept word block c p = let q = k .machines _ c p in chosen (isBranch i) (λ _. branches-kept word block _ q) (λ _. is-on q)
-
   load-kept : (a : ℕ) (w : Word) (c : Context) → wordFrom (c .given .code) (c .given .options .base) a ≡ w → P c → Meet (loaded i a w c)
   load-kept a (W-Found value) c e p =
       chained {P = λ d. P (withProgress (poolTo a (d .progress)) d)}
@@ -308,6 +273,73 @@ module _ (i : Ins) (size : ℕ) (P G : Context → Type 0) (E : ℕ → Context 
       chosen (ltb (undefinedRegister (c .given .options .check) (c .progress .«defined_registers») i) 16)
       (λ _. is-refused) (λ _. is-on (k .defines _ c p))
 
+  toReturn-kept : (c : Context) → P c → ((n : ℕ) → Skips c n → G (goingTo n c)) → Meet (toReturn i c)
+  unfolding toReturn
+  toReturn-kept c p g =
+      chained
+      (chained
+      (chained (chained (chained (skips-kept c p g) jumpTable-kept) illegalCode-kept) branchOutside-kept)
+      markPool-kept)
+      forgetWritten-kept
+
+  -- the blocks before the branch
+  pub before-kept : (word : ℕ) (c : Context) → P c → ((n : ℕ) → Skips c n → G (goingTo n c)) → Meet (beforeBranch i word size c)
+  unfolding beforeBranch
+  before-kept word c p g =
+      chained (toReturn-kept c p g)
+      (λ c p. chained (finalReturn-kept word (inConditionalBlock c) (isReturn (c .progress .address) i (c .progress .previous)) c p)
+      (entry-kept (inConditionalBlock c)))
+
+module _ (i : Ins) (size : ℕ) (P G : Context → Type 0) (E : ℕ → Context → Type 0) (k : Kept i size P G E) (jumps : Jumps size P) where
+  abbrev Comes : Step → Type 0
+  Comes s = Meets P G E s
+
+  gap-kept : (g : Gap) (c : Context) → gapFrom (stands-in (c .maps .pools)) (c .progress .address + size) ≡ g → P c → Comes (pastGap g c)
+  gap-kept (G-At n) c e p = is-on (jumps n c (inr (omega (arith, gap-at _ _ n e .is))) p)
+  gap-kept G-Beyond c e p = is-refused
+
+  label-kept : (f : Found) (c : Context) → atOrAbove (c .next) (c .maps .labels) ≡ f → P c → Comes (toLabel i size f c)
+  label-kept (F-At n) c e p = is-on (jumps _ c (inl (label-above (c .next) (c .maps .labels) n e)) p)
+  label-kept F-Missing c e p =
+      chosen (ltb (c .progress .address) (i .target))
+      (λ _. has-ended (k .ends c p))
+      (λ _. gap-kept (gapFrom (stands-in (c .maps .pools)) (c .progress .address + size)) c refl p)
+
+  pub pastPools-kept : (c : Context) → P c → Comes (pastPools i size c)
+  unfolding pastPools
+  pastPools-kept c p =
+      chosen (stands-in (c .maps .pools) (c .progress .address + size))
+      (λ _. label-kept (atOrAbove (c .next) (c .maps .labels)) c refl p)
+      (λ _. is-on p)
+
+  raised-label : (block : Bool) (c : Context) → P c → P (labelRaised i block c)
+  unfolding labelRaised
+  raised-label block c p = step (raisesLabel i block c)
+    where
+      step : (b : Bool) → P (pick b (withProgress (raising (i .target) (c .progress)) c) c)
+      step true = k .raises (i .target) c p
+      step false = p
+
+  handleLabel-kept : (block : Bool) (c : Context) → P c → Comes (handleLabel i size block c)
+  unfolding handleLabel
+  handleLabel-kept block c p =
+      chained
+      (chosen _ (λ e. is-on (k .labels (i .target ∷ []) c refl e p)) (λ _. is-refused))
+      (λ c p. pastPools-kept _ (raised-label block c p))
+
+  branches-kept : (word : ℕ) (block : Bool) (c : Context) → P c → Comes (branches i word size block c)
+  unfolding branches
+  branches-kept word block c p =
+      chosen (isIn (c .given .options .«module_start») (c .given .options .«module_end») (i .target))
+      (λ _. chosen (isOtherFunction i c)
+      (λ _. chosen (both (not (isConditional (i .cond))) (not block)) (λ _. has-ended (k .ends c p)) (λ _. call-kept i size P G E k word arm c p))
+      (λ _. handleLabel-kept block c p))
+      (λ _. call-kept i size P G E k word arm c p)
+
+  branch-kept : (word : ℕ) (block : Bool) (c : Context) → P c → Comes (branch i word size block c)
+  unfolding branch branched
+  branch-kept word block c p = let q = k .machines _ c p in chosen (isBranch i) (λ _. branches-kept word block _ q) (λ _. is-on q)
+
   -- ---- and so the step
 
   fromReturn-kept : (word : ℕ) (block returns : Bool) (c : Context) → P c → Meets (λ _. ⊥) G E (fromReturn i word size block returns c)
@@ -319,27 +351,18 @@ module _ (i : Ins) (size : ℕ) (P G : Context → Type 0) (E : ℕ → Context 
       (chained
       (chained
       (chained
-      (chained (finalReturn-kept word block returns c p) (entry-kept block))
+      (chained (finalReturn-kept i size P G E k word block returns c p) (entry-kept i size P G E k block))
       (branch-kept word block))
-      poolLoad-kept)
-      inlineTable-kept)
-      (functionCall-kept word))
-      (checkDefined-kept returns))
+      (poolLoad-kept i size P G E k))
+      (inlineTable-kept i size P G E k))
+      (functionCall-kept i size P G E k word))
+      (checkDefined-kept i size P G E k returns))
       (λ c p. has-gone (k .goes c p))
-
-  toReturn-kept : (c : Context) → P c → ((n : ℕ) → Skips c n → G (goingTo n c)) → Meet (toReturn i c)
-  unfolding toReturn
-  toReturn-kept c p g =
-      chained
-      (chained
-      (chained (chained (chained (skips-kept c p g) jumpTable-kept) illegalCode-kept) branchOutside-kept)
-      markPool-kept)
-      forgetWritten-kept
 
   handleInsInner-kept : (word : ℕ) (c : Context) → P c → ((n : ℕ) → Skips c n → G (goingTo n c))
       → Meets (λ _. ⊥) G E (handleInsInner i word size c)
   unfolding handleInsInner
-  handleInsInner-kept word c p g = chained (toReturn-kept c p g) (λ c p. fromReturn-kept word _ _ c p)
+  handleInsInner-kept word c p g = chained (toReturn-kept i size P G E k c p g) (λ c p. fromReturn-kept word _ _ c p)
 
 -- ---- handle_ins
 
@@ -365,13 +388,14 @@ never-on i word size c d e = step (handleInsInner i word size (goingTo (c .progr
     step (ends a b) e = let z : _≡_ {A = ℕ} 0 1 = cc in omega arith
     step (refuses n r) e = let z : _≡_ {A = ℕ} 0 1 = cc in omega arith
 
-module _ (i : Ins) (size : ℕ) (P G : Context → Type 0) (E : ℕ → Context → Type 0) (k : Kept i size P (λ c. G (moved i c)) E) where
+module _ (i : Ins) (size : ℕ) (P G : Context → Type 0) (E : ℕ → Context → Type 0) (k : Kept i size P (λ c. G (moved i c)) E)
+    (jumps : Jumps size P) where
   pub handleIns-kept : (word : ℕ) (c : Context) → P (goingTo (c .progress .address + size) c)
       → ((n : ℕ) → Skips c n → G (moved i (goingTo n c)))
       → Meets (λ _. ⊥) G E (handleIns i word size c)
   unfolding handleIns
   handleIns-kept word c p g =
-      passed-kept i G (handleInsInner-kept i size P (λ c. G (moved i c)) E k word (goingTo (c .progress .address + size) c) p skips)
+      passed-kept i G (handleInsInner-kept i size P (λ c. G (moved i c)) E k jumps word (goingTo (c .progress .address + size) c) p skips)
     where
       skips : (n : ℕ) → Skips (goingTo (c .progress .address + size) c) n → G (moved i (goingTo n c))
       skips n (pool e) = g _ (pool e)

@@ -28,8 +28,9 @@ use Rattle.rows.specs.declared.Gap.the-variants.{At as G-At, Beyond as G-Beyond
 use Rattle.rows.proofs.RowLaws.{stands-inserted}
 use Rattle.rows.proofs.OrderLaws.{both-second}
 use Rattle.invariants.proofs.TargetLaws.{branch-past}
-use Rattle.invariants.proofs.BlockLaws.{Meets, is-on, is-refused, Kept, Skips, pool, table, handleIns-kept, pastPools-kept, chained, chosen}
-use Rattle.invariants.proofs.BlockLaws.{stayed, gone, ended}
+use Rattle.invariants.proofs.BlockLaws.{Meets, is-on, is-refused, Kept, Jumps, Skips, pool, table, handleIns-kept, pastPools-kept, chained}
+use Rattle.invariants.proofs.BlockLaws.{chosen}
+use Rattle.invariants.proofs.BlockLaws.{stayed, gone, ended, beforeBranch, before-kept}
 
 -- a table holds what lies before its end
 pub table-past : (a : ℕ) (ts : List (List ℕ)) (t : List ℕ) → inlineTableAt a ts ≡ some t → a < endOf t
@@ -63,7 +64,6 @@ module _ (i : Ins) (size a : ℕ) where
     defines = λ d c p. p;
     forgets = λ c p. p;
     marks = λ x c p. p;
-    jumps = λ n c h p. (p .0, past c n h p);
     labels = λ r c w f p. p;
     jumpTables = λ r c w f p. p;
     inlineTables = λ r c w f p. p;
@@ -73,10 +73,10 @@ module _ (i : Ins) (size a : ℕ) where
     ends = λ c p. inl (ap (λ (x : ℕ). x + size) (p .0));
     entry = λ e c p. inr (p .0, e);
   }
-    where
-      past : (c : Context) (n : ℕ) → (c .next ≤ n) ⊎ (c .progress .address + size ≤ n) → Ahead c → a + size ≤ n
-      past c n (inl h) p = omega (arith, p .1)
-      past c n (inr h) p = omega (arith, p .0)
+
+  ahead-jumps : Jumps size Ahead
+  ahead-jumps n c (inl h) p = (p .0, omega (arith, p .1))
+  ahead-jumps n c (inr h) p = (p .0, omega (arith, p .0))
 
 module _ (i : Ins) (word size : ℕ) (c : Context) where
   -- unless it skips, a step goes on at or past the next instruction
@@ -88,7 +88,7 @@ module _ (i : Ins) (word size : ℕ) (c : Context) where
       let a = c .progress .address in
       gone c'
       (handleIns-kept i size (Ahead i size a) (λ d. a + size ≤ d .progress .address) (λ e d. EndsAt i size a e)
-      (ahead-kept i size a _ (λ d h. h)) word c (refl, omega arith) none-skip)
+      (ahead-kept i size a _ (λ d h. h)) (ahead-jumps i size a) word c (refl, omega arith) none-skip)
       e
     where
       none-skip : (n : ℕ) → Skips c n → c .progress .address + size ≤ n
@@ -100,7 +100,7 @@ module _ (i : Ins) (word size : ℕ) (c : Context) where
   comes s =
       let a = c .progress .address in
       handleIns-kept i size (Ahead i size a) (λ d. a < d .progress .address) (λ e d. EndsAt i size a e)
-      (ahead-kept i size a _ (λ d h. omega arith)) word c (refl, omega arith) (λ n h. skip-past c n h)
+      (ahead-kept i size a _ (λ d h. omega arith)) (ahead-jumps i size a) word c (refl, omega arith) (λ n h. skip-past c n h)
 
   pub goes-past : (c' : Context) → 0 < size → handleIns i word size c ≡ goes c' → c .progress .address < c' .progress .address
   goes-past c' s e = gone c' (comes s) e
@@ -108,13 +108,40 @@ module _ (i : Ins) (word size : ℕ) (c : Context) where
   pub ends-at : (end : ℕ) (c' : Context) → 0 < size → handleIns i word size c ≡ ends end c' → EndsAt i size (c .progress .address) end
   ends-at end c' s e = ended end c' (comes s) e
 
--- handle_label's assert: past pools the walk goes on at or above the parser's address, which is the next instruction's
-pub never-back : (i : Ins) (size : ℕ) (c c' : Context) → c .next ≡ c .progress .address + size → pastPools i size c ≡ on c'
+-- ---- the parser's address at a branch is the next instruction's
+
+abbrev pub AtNext : ℕ → Context → Type 0
+AtNext size c = c .next ≡ c .progress .address + size
+
+next-kept : (i : Ins) (size : ℕ) → Kept i size (AtNext size) (λ d. Unit {0}) (λ e d. Unit {0})
+next-kept i size = record {
+  machines = λ m c p. p;
+  raises = λ d c p. p;
+  tables = λ d c p. p;
+  defines = λ d c p. p;
+  forgets = λ c p. p;
+  marks = λ x c p. p;
+  labels = λ r c w f p. p;
+  jumpTables = λ r c w f p. p;
+  inlineTables = λ r c w f p. p;
+  calls = λ r c w f p. p;
+  loads = λ x v c w f p. p;
+  goes = λ c p. tt;
+  ends = λ c p. tt;
+  entry = λ e c p. tt;
+}
+
+pub at-branch : (i : Ins) (word size : ℕ) (c d : Context) → AtNext size c → beforeBranch i word size c ≡ on d → AtNext size d
+at-branch i word size c d p e =
+    stayed d (before-kept i size (AtNext size) (λ d. Unit {0}) (λ e d. Unit {0}) (next-kept i size) word c p (λ n h. tt)) e
+
+-- handle_label's assert: past pools the walk goes on at or above the parser's address
+pub never-back : (i : Ins) (size : ℕ) (c c' : Context) → AtNext size c → pastPools i size c ≡ on c'
     → c .progress .address + size ≤ c' .next
 never-back i size c c' at e =
     let a = c .progress .address in
     let kept = ahead-kept i size a (λ d. Unit {0}) (λ d h. tt) in
-    stayed c' (pastPools-kept i size (Ahead i size a) (λ d. Unit {0}) (λ e d. EndsAt i size a e) kept c (refl, omega arith)) e .1
+    stayed c' (pastPools-kept i size (Ahead i size a) (λ d. Unit {0}) (λ e d. EndsAt i size a e) kept (ahead-jumps i size a) c (refl, omega arith)) e .1
 
 -- ---- handle_label's arm "no further label, forward branch"
 
@@ -134,7 +161,7 @@ label-found : (x y : ℕ) (m : List (List ℕ)) → stands-in m x ≡ true → y
 unfolding atOrAbove
 label-found x y m e l h = let f = lt-ltb _ _ (rank-within x y m e l) in let z : _≡_ {A = ℕ} 0 1 = cc (rw f at h) in omega arith
 
-module _ (word : ℕ) (c : Context) (at : c .next ≡ c .progress .address + armSize)
+module _ (word : ℕ) (c : Context) (at : AtNext armSize c)
     (is-branch : isBranch (decodeOf word (c .progress .address)) ≡ true) where
   abbrev i : Ins
   i = decodeOf word (c .progress .address)

@@ -122,7 +122,6 @@ module _ (i : Ins) (size : ℕ) where
     defines = λ d c p. p;
     forgets = λ c p. p;
     marks = λ x c p. p;
-    jumps = λ n c h p. p;
     labels = λ r c w f p. p;
     jumpTables = λ r c w f p. p;
     inlineTables = λ r c w f p. p;
@@ -180,7 +179,6 @@ module _ (i : Ins) (size : ℕ) where
       },
       pooled-marked x (p .0 .pools) (p .1),
     );
-    jumps = λ n c h p. p;
     labels = λ r c w f p. (
       record {
         labels = fit-inserted r w f (p .0 .labels);
@@ -230,8 +228,8 @@ module _ (i : Ins) (size : ℕ) where
 module _ (i : Ins) (word size : ℕ) (c : Context) where
   pub step-same : Meets (λ _. ⊥) (Same (c .given) (c .progress .start)) (λ e d. Same (c .given) (c .progress .start) d) (handleIns i word size c)
   step-same =
-      handleIns-kept i size (Same (c .given) (c .progress .start)) _ _ (same-kept i size (c .given) (c .progress .start)) word c (refl, refl)
+      handleIns-kept i size (Same (c .given) (c .progress .start)) _ _ (same-kept i size (c .given) (c .progress .start)) (λ n d h p. p) word c (refl, refl)
       (λ n h. (refl, refl))
 
   pub step-sound : Sound c → Meets (λ _. ⊥) Sound (λ e d. Sound d) (handleIns i word size c)
-  step-sound p = handleIns-kept i size Sound _ _ (sound-kept i size) word c p (λ n h. p)
+  step-sound p = handleIns-kept i size Sound _ _ (sound-kept i size) (λ n d h p. p) word c p (λ n h. p)
