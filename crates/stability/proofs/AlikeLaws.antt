@@ -1,0 +1,74 @@
+-- Two contexts that differ in their code, in the values of their pools and in the values in registers alone; and what a block comes to on
+-- both. Assumes nothing.
+use mathlib.Core.Path.{_≡_, refl}
+use mathlib.Core.Bool.{Bool, true, false}
+use mathlib.Core.List.{List}
+use Prim.Native.Nat.{ℕ, _+_, _-_, _≤_, _<_}
+use lib.ListN.{length}
+use Rattle.base.specs.Choice.{pick}
+use Rattle.base.specs.Refusals.{poolOutside}
+use Rattle.context.specs.Context.{Given, Context, Step, on, goes, ends, refuses, _▸_, poolsTo}
+use Rattle.stability.proofs.PoolLaws.{Paired}
+
+-- another code
+abbrev pub codeTo : List ℕ → Given → Given
+codeTo code g = record { options = g .options; places = g .places; code = code; starts = g .starts }
+
+-- another code, other pools, and other values in registers
+abbrev pub valued : Given → List (List ℕ) → List ℕ → Context → Context
+valued g pools values x = record {
+  given = g;
+  next = x .next;
+  progress = x .progress;
+  machines = x .machines;
+  registers = record { values = values; sources = x .registers .sources };
+  maps = poolsTo pools (x .maps);
+}
+
+-- steps at the address a, on the codes c and d
+module _ (g : Given) (c d : List ℕ) (a : ℕ) where
+  -- the pools of both, and the values in registers
+  pub record Twins : Type 0 where
+    pub pools : List (List ℕ)
+    pub others : List (List ℕ)
+    pub values : List ℕ
+    pub otherValues : List ℕ
+    pub paired : Paired c d (g .options .base) pools others
+
+  abbrev pub first : Twins → Context → Context
+  first t x = valued (codeTo c g) (t .pools) (t .values) x
+
+  abbrev pub second : Twins → Context → Context
+  second t x = valued (codeTo d g) (t .others) (t .otherValues) x
+
+  -- the same step; but where the second code is longer, it may have a pool's word that the first lacks. Up to its end a step stays at its
+  -- address, and the last pool lies in the first code
+  pub record Stays (address lastPool : ℕ) : Type 0 where
+    pub at : address ≡ a
+    pub last : lastPool ≤ g .options .base + length c - 4
+
+  pub data Alike : Step → Step → Type 0 where
+    both-on : (x : Context) (t : Twins) → Stays (x .progress .address) (x .progress .«last_pool_address») → Alike (on (first t x)) (on (second t x))
+    both-go : (x : Context) (t : Twins) → Alike (goes (first t x)) (goes (second t x))
+    both-end : (end : ℕ) (x : Context) (t : Twins) → Alike (ends end (first t x)) (ends end (second t x))
+    both-refuse : (n r : ℕ) → Alike (refuses n r) (refuses n r)
+    first-lacks : {s : Step} → length c < length d → Alike (refuses poolOutside 0) s
+
+  -- a block comes to the same on both
+  abbrev pub Blind : (Context → Step) → Type 0
+  Blind f = (x : Context) (t : Twins) → Stays (x .progress .address) (x .progress .«last_pool_address») → Alike (f (first t x)) (f (second t x))
+
+  pub then-alike : (f : Context → Step) {s t : Step} → Alike s t → Blind f → Alike (s ▸ f) (t ▸ f)
+  then-alike f (both-on x t s) b = b x t s
+  then-alike f (both-go x t) b = both-go x t
+  then-alike f (both-end end x t) b = both-end end x t
+  then-alike f (both-refuse n r) b = both-refuse n r
+  then-alike f (first-lacks h) b = first-lacks h
+
+  -- both choose by the same test
+  pub pick-told : {s s' t t' : Step} (b : Bool) → (b ≡ true → Alike s s') → Alike t t' → Alike (pick b s t) (pick b s' t')
+  pick-told true x y = x refl
+  pick-told false x y = y
+
+  pub pick-alike : {s s' t t' : Step} (b : Bool) → Alike s s' → Alike t t' → Alike (pick b s t) (pick b s' t')
+  pick-alike b x y = pick-told b (λ _. x) y

@@ -1,0 +1,2 @@
+-- The runs of the walk, and what their theorem says.
+pub mod Runs
