@@ -8,7 +8,7 @@ use lib.ListN.{length}
 use Rattle.base.specs.Choice.{pick}
 use Rattle.base.specs.Refusals.{poolOutside}
 use Rattle.context.specs.Context.{Given, Context, Step, on, goes, ends, refuses, _▸_, poolsTo}
-use Rattle.stability.proofs.PoolLaws.{Paired}
+use Rattle.stability.proofs.PairLaws.{Paired}
 
 -- another code
 abbrev pub codeTo : List ℕ → Given → Given

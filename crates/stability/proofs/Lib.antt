@@ -1,6 +1,8 @@
 -- The theorem about runs, from the code's bytes up.
-pub mod WordLaws
-pub mod PoolLaws
+pub mod CodeLaws
+pub mod PairLaws
 pub mod AlikeLaws
-pub mod BlockLaws
+pub mod BlindLaws
 pub mod TurnLaws
+pub mod SliceLaws
+pub mod LongerLaws

@@ -24,9 +24,9 @@ use Rattle.rows.specs.Map.{stands-in}
 use Rattle.walk.specs.declared.Answer.{Answer}
 use Rattle.walk.specs.declared.Answer.the-variants.{Going, Accepted, Refused}
 use Rattle.walk.specs.declared.Walk.{Walk}
-use Rattle.stability.proofs.PoolLaws.{Paired, none as no-pools, paired-length, paired-stands, paired-first}
+use Rattle.stability.proofs.PairLaws.{Paired, none as no-pools, paired-length, paired-stands, paired-first}
 use Rattle.stability.proofs.AlikeLaws.{Twins, Stays, Alike, both-on, both-go, both-end, both-refuse, first-lacks, Blind, first, second, then-alike, codeTo}
-use Rattle.stability.proofs.BlockLaws.{SameEntry, jump-table, illegal-code, branch-outside, mark-pool, forget-written, final-return, entry-after-branch, branch-alike, pool-load, inline-table, function-call, check-defined}
+use Rattle.stability.proofs.BlindLaws.{SameEntry, jump-table, illegal-code, branch-outside, mark-pool, forget-written, final-return, entry-after-branch, branch-alike, pool-load, inline-table, function-call, check-defined}
 
 -- no pool and no inline table lies at the address
 pub record IsCode (a : ℕ) (m : Maps) : Type 0 where

@@ -43,8 +43,8 @@ use Rattle.rows.specs.declared.Found.the-variants.{At as F-At, Missing as F-Mis
 use Rattle.rows.specs.declared.Gap.{Gap}
 use Rattle.rows.specs.declared.Gap.the-variants.{At as G-At, Beyond as G-Beyond}
 use Rattle.walk.specs.Checking.{undefinedRegister, definedAfter}
-use Rattle.stability.proofs.WordLaws.{word-inside, inside-found, inside-longer, longer-found}
-use Rattle.stability.proofs.PoolLaws.{Words, paired-length, paired-stands, paired-stands-in, paired-inserted, paired-marked}
+use Rattle.stability.proofs.CodeLaws.{word-inside, inside-found, inside-longer, longer-found}
+use Rattle.stability.proofs.PairLaws.{Words, paired-length, paired-stands, paired-stands-in, paired-inserted, paired-marked}
 use Rattle.stability.proofs.AlikeLaws.{Twins, Stays, Alike, both-on, both-end, both-refuse, first-lacks, Blind, first, second, then-alike, pick-told, pick-alike}
 
 -- a word that the first code has is an entry instruction in both or in neither
