@@ -5,13 +5,13 @@ use mathlib.Core.Bool.{Bool, true, false}
 use mathlib.Core.List.{List}
 use Prim.Native.Nat.{ℕ, _+_, _-_, _≤_, _<_}
 use native.Mathlib.Omega.{arith}
-use lib.Dec.{ltb, leb}
+use lib.Dec.{leb}
 use lib.ListN.{length, drop, getD, length-drop}
 use lib.Seq.{getD-drop}
-use borrow.Author.Tests.{ltb-false, le-ltb, leb-true, leb-false}
-use Rattle.base.specs.Choice.{pick}
+use borrow.Author.Tests.{le-ltb, leb-true, leb-false}
 use Rattle.base.specs.declared.word.Word.the-variants.{Found, Missing}
 use Rattle.base.specs.Words.{wordFrom, firstWord, littleEndian}
+use Rattle.invariants.proofs.WordLaws.{found-inside}
 use Rattle.stability.specs.Runs.{Agree}
 
 -- the four bytes from a place on
@@ -34,20 +34,7 @@ word-inside code base a i =
     rw (le-ltb a base (i .low), le-ltb (length code) (a - base) (omega arith)) (first-found code (a - base) (omega arith))
 
 pub inside-found : (code : List ℕ) (base a w : ℕ) → wordFrom code base a ≡ Found w → Inside code base a
-unfolding wordFrom firstWord
-inside-found code base a w e =
-    step (ltb a base) (ltb (length code) (a - base)) (ltb (length (drop (a - base) code)) 4) refl refl refl e
-  where
-    step : (p q r : Bool)
-        → ltb a base ≡ p
-        → ltb (length code) (a - base) ≡ q
-        → ltb (length (drop (a - base) code)) 4 ≡ r
-        → pick p Missing (pick q Missing (pick r Missing (Found (littleEndian (getD (drop (a - base) code) 0 0) (getD (drop (a - base) code) 1 0) (getD (drop (a - base) code) 2 0) (getD (drop (a - base) code) 3 0))))) ≡ Found w
-        → Inside code base a
-    step true q r h i j f = absurd (let z : _≡_ {A = ℕ} 0 1 = cc in omega arith)
-    step false true r h i j f = absurd (let z : _≡_ {A = ℕ} 0 1 = cc in omega arith)
-    step false false true h i j f = absurd (let z : _≡_ {A = ℕ} 0 1 = cc in omega arith)
-    step false false false h i j f = record { low = omega (arith, ltb-false); high = omega (arith, ltb-false, length-drop (a - base) code) }
+inside-found code base a w e = let i = found-inside code base a w e in record { low = i .0; high = i .1 }
 
 -- a longer code has a word where the shorter has one
 pub inside-longer : (c d : List ℕ) (base a : ℕ) → length c ≤ length d → Inside c base a → Inside d base a

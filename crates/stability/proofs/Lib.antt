@@ -6,3 +6,7 @@ pub mod BlindLaws
 pub mod TurnLaws
 pub mod SliceLaws
 pub mod LongerLaws
+pub mod LeadLaws
+pub mod StepLaws
+pub mod ReachLaws
+pub mod StableLaws

@@ -194,11 +194,17 @@ module _ (g : Given) (c d : List ℕ) (longer : length c ≤ length d) (w : Walk
           (handle-ins g c d longer at (decodeOf word at) word armSize (contextAt g w m) twins (record { at = refl; last = last }) (entry word e))
       step Missing e = closed-alike g c d at (Refused noEpilogue 0 0) (contextAt g w m) twins
 
+-- going on, or a record
+abbrev pub Unrefused : Answer → Type 0
+Unrefused Going = Unit {0}
+Unrefused (Accepted r) = Unit {0}
+Unrefused (Refused n a r) = ⊥
+
 module _ {c d : List ℕ} {base : ℕ} {s t : Turned} where
   -- a turn that is not refused is the same on a longer code
-  pub kept-same : AlikeTurn c d base s t → ((n a r : ℕ) → s .walk .result ≡ Refused n a r → ⊥) → SameTurn c d base s t
+  pub kept-same : AlikeTurn c d base s t → Unrefused (s .walk .result) → SameTurn c d base s t
   kept-same (same k) kept = k
-  kept-same (lacks a h e) kept = absurd (kept poolOutside a 0 e)
+  kept-same (lacks a h e) kept = absurd (rw e at kept)
 
   -- and on a code as long, a refused one too
   pub long-same : length c ≡ length d → AlikeTurn c d base s t → SameTurn c d base s t

@@ -1,0 +1,123 @@
+-- Where a turn leads: never back, past a return, and at its end to the record's last instruction end.
+-- Assumes nothing.
+use mathlib.Core.Path.{_≡_, refl, sym, ap, _∙_}
+use mathlib.Core.Bool.{Bool, true, false}
+use mathlib.Core.Logic.{inl, inr}
+use Prim.Native.Nat.{ℕ, _+_, _≤_}
+use native.Mathlib.Omega.{arith}
+use lib.Dec.{ltb}
+use Rattle.analysis.specs.Pattern.{pick}
+use Rattle.arm.specs.Ins.{decodeOf}
+use Rattle.base.specs.declared.word.Word.{Word}
+use Rattle.base.specs.declared.word.Word.the-variants.{Found, Missing}
+use Rattle.base.specs.Words.{wordFrom}
+use Rattle.context.specs.Blocks.{handleIns}
+use Rattle.context.specs.Context.{Maps, Given, Context, Step, on, goes, ends, refuses}
+use Rattle.context.specs.Turn.{armSize, contextAt, closed, functionOf, endingAt, keyOr0, settled, turnAt, turn}
+use Rattle.predicates.specs.declared.Previous.{Previous}
+use Rattle.predicates.specs.Predicates.{isReturn}
+use Rattle.rows.specs.Map.{firstKey}
+use Rattle.walk.specs.declared.Answer.{Answer}
+use Rattle.walk.specs.declared.Answer.the-variants.{Going, Accepted, Refused}
+use Rattle.walk.specs.declared.Options.{Options}
+use Rattle.walk.specs.declared.Record.{Record}
+use Rattle.walk.specs.declared.Walk.{Walk}
+use Rattle.walk.specs.IntoFunction.{startOf, endOf, intoFunction}
+use Rattle.invariants.proofs.BlockLaws.{never-on}
+use Rattle.invariants.proofs.ClassLaws.{entry-no-return}
+use Rattle.invariants.proofs.MoveLaws.{EndsAt, goes-next, goes-past, ends-at}
+use Rattle.invariants.proofs.TurnLaws.{closed-result}
+use Rattle.stability.proofs.TurnLaws.{IsCode, Unrefused}
+
+closed-address : (r : Answer) (x : Context) → closed r x .walk .progress .address ≡ x .progress .address
+closed-address Going x = refl
+closed-address (Accepted r) x = refl
+closed-address (Refused n a r) x = refl
+
+-- the record that a step comes to has its end for last instruction end
+record-last : (o : Options) (start last lastPool firstPool : ℕ) (r : Record) → intoFunction o start last lastPool firstPool ≡ Accepted r
+    → last ≡ r .«last_instruction_end»
+unfolding intoFunction
+record-last o start last lastPool firstPool r e = step (endOf (o .«known_end») last lastPool) (ltb (o .«module_end») (endOf (o .«known_end») last lastPool)) e
+  where
+    step : (end : ℕ) (b : Bool)
+        → pick b (Refused 14 0 0) (Accepted (record { start = startOf start firstPool; end = end; «first_instruction» = start; «last_instruction_end» = last })) ≡ Accepted r
+        → last ≡ r .«last_instruction_end»
+    step end true h = absurd (let z : _≡_ {A = ℕ} 0 1 = cc in omega arith)
+    step end false h =
+        let same : record { start = startOf start firstPool; end = end; «first_instruction» = start; «last_instruction_end» = last } ≡ r = cc in
+        ap (λ (q : Record). q .«last_instruction_end») same
+
+module _ (g : Given) (w : Walk) (m : Maps) where
+  abbrev a : ℕ
+  a = w .progress .address
+
+  abbrev before : Context
+  before = contextAt g w m
+
+  abbrev stepAt : ℕ → Step
+  stepAt word = handleIns (decodeOf word a) word armSize before
+
+  -- never back
+  settled-rises : (word : ℕ) (s : Step) → stepAt word ≡ s → a ≤ settled before s .walk .progress .address
+  settled-rises word (on x) e = absurd (never-on (decodeOf word a) word armSize before x e)
+  settled-rises word (goes x) e = let past = goes-past (decodeOf word a) word armSize before x (omega arith) e in omega arith
+  settled-rises word (ends end x) e =
+      rw (closed-address (functionOf end x) (endingAt end x)) (above (ends-at (decodeOf word a) word armSize before end x (omega arith) e))
+    where
+      above : EndsAt (decodeOf word a) armSize a end → a ≤ end
+      above (inl h) = omega arith
+      above (inr h) = omega (arith, h .0)
+  settled-rises word (refuses n r) e = omega arith
+
+  pub turn-rises : w .progress .address ≤ turn g w m .walk .progress .address
+  unfolding turn
+  turn-rises = at (wordFrom (g .code) (g .options .base) a)
+    where
+      at : (y : Word) → a ≤ turnAt y before .walk .progress .address
+      at (Found word) = settled-rises word (stepAt word) refl
+      at Missing = omega arith
+
+  -- a return is no entry, so it leads past itself
+  settled-return : (word : ℕ) → IsCode a m → (p : Previous) → isReturn a (decodeOf word a) p ≡ true
+      → (s : Step) → stepAt word ≡ s → Unrefused (settled before s .walk .result) → a + armSize ≤ settled before s .walk .progress .address
+  settled-return word code p returns (on x) e k = absurd (never-on (decodeOf word a) word armSize before x e)
+  settled-return word code p returns (goes x) e k = goes-next (decodeOf word a) word armSize before x (code .pools) (code .tables) e
+  settled-return word code p returns (ends end x) e k =
+      rw (closed-address (functionOf end x) (endingAt end x)) (past (ends-at (decodeOf word a) word armSize before end x (omega arith) e))
+    where
+      past : EndsAt (decodeOf word a) armSize a end → a + armSize ≤ end
+      past (inl h) = omega arith
+      past (inr h) =
+          let never = entry-no-return a (decodeOf word a) p (h .1) in
+          absurd (let z : _≡_ {A = ℕ} 0 1 = cc in omega arith)
+  settled-return word code p returns (refuses n r) e k = absurd k
+
+  pub turn-return : (word : ℕ) → wordFrom (g .code) (g .options .base) (w .progress .address) ≡ Found word → IsCode (w .progress .address) m
+      → (p : Previous) → isReturn (w .progress .address) (decodeOf word (w .progress .address)) p ≡ true
+      → Unrefused (turn g w m .walk .result) → w .progress .address + armSize ≤ turn g w m .walk .progress .address
+  unfolding turn
+  turn-return word found code p returns kept = rw found (settled-return word code p returns (stepAt word) refl (rw found at kept))
+
+  -- a walk ends where its last instruction does
+  settled-ends : (r : Record) (s : Step) → settled before s .walk .result ≡ Accepted r → settled before s .walk .progress .address ≡ r .«last_instruction_end»
+  settled-ends r (on x) e = absurd (let z : _≡_ {A = ℕ} 0 1 = cc in omega arith)
+  settled-ends r (goes x) e = absurd (let z : _≡_ {A = ℕ} 0 1 = cc in omega arith)
+  settled-ends r (ends end x) e =
+      closed-address (functionOf end x) (endingAt end x)
+      ∙ record-last (x .given .options) (x .progress .start) end (x .progress .«last_pool_address») (keyOr0 (firstKey (x .maps .pools))) r
+      (sym (closed-result (functionOf end x) (endingAt end x)) ∙ e)
+  settled-ends r (refuses n k) e = absurd (let z : _≡_ {A = ℕ} 0 1 = cc in omega arith)
+
+  pub turn-ends : (r : Record) → turn g w m .walk .result ≡ Accepted r → turn g w m .walk .progress .address ≡ r .«last_instruction_end»
+  unfolding turn
+  turn-ends r e = at (wordFrom (g .code) (g .options .base) a) e
+    where
+      at : (y : Word) → turnAt y before .walk .result ≡ Accepted r → turnAt y before .walk .progress .address ≡ r .«last_instruction_end»
+      at (Found word) h = settled-ends r (stepAt word) h
+      at Missing h = absurd (let z : _≡_ {A = ℕ} 0 1 = cc in omega arith)
+
+  -- a turn that is not refused has found a word
+  pub turn-found : Unrefused (turn g w m .walk .result) → (wordFrom (g .code) (g .options .base) (w .progress .address) ≡ Missing → ⊥)
+  unfolding turn
+  turn-found kept e = rw e at kept
