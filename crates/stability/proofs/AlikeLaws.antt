@@ -1,5 +1,6 @@
 -- Two contexts that differ in their code, in the values of their pools and in the values in registers alone; and what a block comes to on
--- both. Assumes nothing.
+-- both.
+-- Assumes nothing.
 use mathlib.Core.Path.{_≡_, refl}
 use mathlib.Core.Bool.{Bool, true, false}
 use mathlib.Core.List.{List}
@@ -15,8 +16,8 @@ abbrev pub codeTo : List ℕ → Given → Given
 codeTo code g = record { options = g .options; places = g .places; code = code; starts = g .starts }
 
 -- another code, other pools, and other values in registers
-abbrev pub valued : Given → List (List ℕ) → List ℕ → Context → Context
-valued g pools values x = record {
+abbrev pub recoded : Given → List (List ℕ) → List ℕ → Context → Context
+recoded g pools values x = record {
   given = g;
   next = x .next;
   progress = x .progress;
@@ -36,19 +37,22 @@ module _ (g : Given) (c d : List ℕ) (a : ℕ) where
     pub paired : Paired c d (g .options .base) pools others
 
   abbrev pub first : Twins → Context → Context
-  first t x = valued (codeTo c g) (t .pools) (t .values) x
+  first t x = recoded (codeTo c g) (t .pools) (t .values) x
 
   abbrev pub second : Twins → Context → Context
-  second t x = valued (codeTo d g) (t .others) (t .otherValues) x
+  second t x = recoded (codeTo d g) (t .others) (t .otherValues) x
 
-  -- the same step; but where the second code is longer, it may have a pool's word that the first lacks. Up to its end a step stays at its
-  -- address, and the last pool lies in the first code
-  pub record Stays (address lastPool : ℕ) : Type 0 where
+  -- up to its end a step stays at its address, and the last pool lies in the first code
+  pub record Within (address lastPool : ℕ) : Type 0 where
     pub at : address ≡ a
     pub last : lastPool ≤ g .options .base + length c - 4
 
+  abbrev pub Stays : Context → Type 0
+  Stays x = Within (x .progress .address) (x .progress .«last_pool_address»)
+
+  -- the same step; but where the second code is longer, it may have a pool's word that the first lacks
   pub data Alike : Step → Step → Type 0 where
-    both-on : (x : Context) (t : Twins) → Stays (x .progress .address) (x .progress .«last_pool_address») → Alike (on (first t x)) (on (second t x))
+    both-on : (x : Context) (t : Twins) → Stays x → Alike (on (first t x)) (on (second t x))
     both-go : (x : Context) (t : Twins) → Alike (goes (first t x)) (goes (second t x))
     both-end : (end : ℕ) (x : Context) (t : Twins) → Alike (ends end (first t x)) (ends end (second t x))
     both-refuse : (n r : ℕ) → Alike (refuses n r) (refuses n r)
@@ -56,9 +60,11 @@ module _ (g : Given) (c d : List ℕ) (a : ℕ) where
 
   -- a block comes to the same on both
   abbrev pub Blind : (Context → Step) → Type 0
-  Blind f = (x : Context) (t : Twins) → Stays (x .progress .address) (x .progress .«last_pool_address») → Alike (f (first t x)) (f (second t x))
+  Blind f = (x : Context) (t : Twins) → Stays x → Alike (f (first t x)) (f (second t x))
 
-  pub then-alike : (f : Context → Step) {s t : Step} → Alike s t → Blind f → Alike (s ▸ f) (t ▸ f)
+module _ {g : Given} {c d : List ℕ} {a : ℕ} where
+  -- one block after another
+  pub then-alike : (f : Context → Step) {s t : Step} → Alike g c d a s t → Blind g c d a f → Alike g c d a (s ▸ f) (t ▸ f)
   then-alike f (both-on x t s) b = b x t s
   then-alike f (both-go x t) b = both-go x t
   then-alike f (both-end end x t) b = both-end end x t
@@ -66,9 +72,9 @@ module _ (g : Given) (c d : List ℕ) (a : ℕ) where
   then-alike f (first-lacks h) b = first-lacks h
 
   -- both choose by the same test
-  pub pick-told : {s s' t t' : Step} (b : Bool) → (b ≡ true → Alike s s') → Alike t t' → Alike (pick b s t) (pick b s' t')
+  pub pick-told : {s s' t t' : Step} (b : Bool) → (b ≡ true → Alike g c d a s s') → Alike g c d a t t' → Alike g c d a (pick b s t) (pick b s' t')
   pick-told true x y = x refl
   pick-told false x y = y
 
-  pub pick-alike : {s s' t t' : Step} (b : Bool) → Alike s s' → Alike t t' → Alike (pick b s t) (pick b s' t')
+  pub pick-alike : {s s' t t' : Step} (b : Bool) → Alike g c d a s s' → Alike g c d a t t' → Alike g c d a (pick b s t) (pick b s' t')
   pick-alike b x y = pick-told b (λ _. x) y

@@ -28,8 +28,13 @@ use Rattle.base.specs.declared.word.Word.the-variants.{Found as W-Found, Missin
 use Rattle.base.specs.Choice.{pick, both, either}
 use Rattle.base.specs.Refusals.{branchOutside as outside, poolOutside, undefinedRegister as undefined, beyond32Bits, listFull}
 use Rattle.base.specs.Words.{wordFrom}
-use Rattle.context.specs.Blocks.{arm, thumb, other, raisedToTable, afterCode, marked, isDestination, isEntryAt, isLongBranchDestination, pastGap, tabled, afterJump, jumpTable, illegalCode, branchOutside, markPool, forgetWritten, callTo, isTailCall, isIn, finalReturn, entryAfterBranch, toLabel, pastPools, raisesLabel, labelRaised, handleLabel, isOtherFunction, branches, branched, branch, loaded, poolLoad, afterInline, inlineTable, calledAs, functionCall, checkDefined}
-use Rattle.context.specs.Context.{Given, Context, on, ends, refuses, goingTo, withProgress, withMachines, withRegisters, withMaps, raising, tableTo, poolTo, defining, jumpTableTo, inlineTableTo, illegalCodeTo, labelsTo, jumpTablesTo, inlineTablesTo, callsTo, enterLabel, enterJumpTable, enterInlineTable, enterCall, labelRow, poolRow, tableRow, callRow}
+use Rattle.context.specs.Blocks.{arm, thumb, other, raisedToTable, afterCode, marked, isDestination, isEntryAt, isLongBranchDestination, pastGap}
+use Rattle.context.specs.Blocks.{tabled, afterJump, jumpTable, illegalCode, branchOutside, markPool, forgetWritten, callTo, isTailCall, isIn}
+use Rattle.context.specs.Blocks.{finalReturn, entryAfterBranch, toLabel, pastPools, raisesLabel, labelRaised, handleLabel, isOtherFunction, branches}
+use Rattle.context.specs.Blocks.{branched, branch, loaded, poolLoad, afterInline, inlineTable, calledAs, functionCall, checkDefined}
+use Rattle.context.specs.Context.{Given, Context, on, ends, refuses, goingTo, withProgress, withMachines, withRegisters, withMaps, raising, tableTo}
+use Rattle.context.specs.Context.{poolTo, defining, jumpTableTo, inlineTableTo, illegalCodeTo, labelsTo, jumpTablesTo, inlineTablesTo, callsTo}
+use Rattle.context.specs.Context.{enterLabel, enterJumpTable, enterInlineTable, enterCall, labelRow, poolRow, tableRow, callRow}
 use Rattle.predicates.specs.declared.Callee.{Callee}
 use Rattle.predicates.specs.declared.Callee.the-variants.{Nothing as No-Call, Arm, Thumb}
 use Rattle.predicates.specs.Predicates.{isBranch, isBx, isEntryInstruction, isPoolLoad, poolAddress, calledBy}
@@ -45,7 +50,8 @@ use Rattle.rows.specs.declared.Gap.the-variants.{At as G-At, Beyond as G-Beyond
 use Rattle.walk.specs.Checking.{undefinedRegister, definedAfter}
 use Rattle.stability.proofs.CodeLaws.{word-inside, inside-found, inside-longer, longer-found}
 use Rattle.stability.proofs.PairLaws.{Words, paired-length, paired-stands, paired-stands-in, paired-inserted, paired-marked}
-use Rattle.stability.proofs.AlikeLaws.{Twins, Stays, Alike, both-on, both-end, both-refuse, first-lacks, Blind, first, second, then-alike, pick-told, pick-alike}
+use Rattle.stability.proofs.AlikeLaws.{Twins, Stays, Alike, both-on, both-end, both-refuse, first-lacks, Blind, first, second, then-alike}
+use Rattle.stability.proofs.AlikeLaws.{pick-told, pick-alike}
 
 -- a word that the first code has is an entry instruction in both or in neither
 abbrev pub SameEntry : List ℕ → List ℕ → ℕ → ℕ → Type 0
@@ -61,7 +67,7 @@ module _ (g : Given) (c d : List ℕ) (a : ℕ) where
 
   -- an insertion into a list other than the pools
   enters : (b : Bool) → Blind g c d a (λ x. pick b (on x) (refuses listFull 0))
-  enters b x t s = pick-alike g c d a b (both-on x t s) (both-refuse listFull 0)
+  enters b x t s = pick-alike b (both-on x t s) (both-refuse listFull 0)
 
   enter-label : (row : List ℕ) → Blind g c d a (enterLabel row)
   enter-label row x t s =
@@ -100,7 +106,7 @@ module _ (g : Given) (c d : List ℕ) (a : ℕ) where
     after-jump : (answer : JumpTableAnswer) → Blind g c d a (afterJump i answer)
     after-jump (J-Next state) x t s = raised-to-table (tableEnd state) (withMachines (jumpTableTo state (x .machines)) x) t s
     after-jump (J-Found state table) x t s =
-        then-alike g c d a (raisedToTable (tableEnd state))
+        then-alike (raisedToTable (tableEnd state))
         (enter-jump-table (table .address ∷ table .size ∷ []) (withMachines (jumpTableTo state (x .machines)) x) t s)
         (raised-to-table (tableEnd state))
     after-jump J-Refused x t s = both-refuse beyond32Bits 0
@@ -117,13 +123,14 @@ module _ (g : Given) (c d : List ℕ) (a : ℕ) where
 
     pub branch-outside : Blind g c d a (branchOutside i)
     unfolding branchOutside
-    branch-outside x t s = pick-alike g c d a (both (isBranch i) (not (isIn 0x01FF_8000 0x0300_0000 (i .target)))) (both-refuse outside 0) (both-on x t s)
+    branch-outside x t s =
+        pick-alike (both (isBranch i) (not (isIn 0x01FF_8000 0x0300_0000 (i .target)))) (both-refuse outside 0) (both-on x t s)
 
     pub mark-pool : Blind g c d a (markPool i)
     unfolding markPool sourceOf
     mark-pool x t s =
         let source = sourceOf (x .registers) (i .rm) in
-        pick-alike g c d a (both (isBx i) (not (eqb source 0)))
+        pick-alike (both (isBx i) (not (eqb source 0)))
         (both-on x
         (record {
           pools = marked source (t .pools);
@@ -152,10 +159,10 @@ module _ (g : Given) (c d : List ℕ) (a : ℕ) where
     call-to word mode x t s = enter-call (x .progress .address ∷ word ∷ i .target ∷ mode ∷ []) x t s
 
     -- the word behind a return, where a pool lies further on
-    module _ (word size : ℕ) (block returns : Bool)
-        (entry : returns ≡ true → SameEntry c d (g .options .base) (a + size)) where
-      long-branch : returns ≡ true → (x : Context) (t : Twins g c d a) → Stays g c d a (x .progress .address) (x .progress .«last_pool_address»)
-          → isLongBranchDestination (x .progress .address + size) (second g c d a t x) ≡ isLongBranchDestination (x .progress .address + size) (first g c d a t x)
+    module _ (word size : ℕ) (block returns : Bool) (entry : returns ≡ true → SameEntry c d (g .options .base) (a + size)) where
+      long-branch : returns ≡ true → (x : Context) (t : Twins g c d a) → Stays g c d a x
+          → isLongBranchDestination (x .progress .address + size) (second g c d a t x)
+          ≡ isLongBranchDestination (x .progress .address + size) (first g c d a t x)
       unfolding isLongBranchDestination
       long-branch r x t s = rw (s .at) (step (ltb (a + size) (x .progress .«last_pool_address»)) refl)
         where
@@ -169,21 +176,20 @@ module _ (g : Given) (c d : List ℕ) (a : ℕ) where
       unfolding finalReturn isTailCall
       final-return x t s =
           let next = x .progress .address + size in
-          pick-told g c d a (both (not block) returns)
+          pick-told (both (not block) returns)
           (λ e.
           rw (long-branch (both-second (not block) returns e) x t s)
-          (pick-alike g c d a (isLongBranchDestination next (first g c d a t x))
+          (pick-alike (isLongBranchDestination next (first g c d a t x))
           (both-on (withProgress (raising next (x .progress)) x) t s)
-          (then-alike g c d a (ends next)
-          (pick-alike g c d a (isTailCall i size x) (call-to word arm x t s) (both-on x t s))
+          (then-alike (ends next)
+          (pick-alike (isTailCall i size x) (call-to word arm x t s) (both-on x t s))
           (λ y u r. both-end next y u))))
           (both-on x t s)
 
     pub entry-after-branch : (block : Bool) → Blind g c d a (entryAfterBranch i block)
     unfolding entryAfterBranch
     entry-after-branch block x t s =
-        pick-alike g c d a
-        (both (ltb (x .progress .start) (x .progress .address))
+        pick-alike (both (ltb (x .progress .start) (x .progress .address))
         (both (isEntryInstruction i)
         (both (x .progress .previous .«is_branch») (either block (x .progress .previous .«is_conditional»)))))
         (both-end (x .progress .address) x t)
@@ -193,7 +199,7 @@ module _ (g : Given) (c d : List ℕ) (a : ℕ) where
     to-label size (F-At k) x t s = both-on (goingTo (keyOf (getD (x .maps .labels) k [])) x) t s
     to-label size F-Missing x t s =
         rw (paired-stands-in c d (g .options .base) (t .paired))
-        (pick-alike g c d a (ltb (x .progress .address) (i .target))
+        (pick-alike (ltb (x .progress .address) (i .target))
         (both-end (x .progress .address + size) x t)
         (past-gap (gapFrom (stands-in (t .pools)) (x .progress .address + size)) x t s))
 
@@ -201,14 +207,15 @@ module _ (g : Given) (c d : List ℕ) (a : ℕ) where
     unfolding pastPools
     past-pools size x t s =
         rw (paired-stands c d (g .options .base) (x .progress .address + size) (t .paired))
-        (pick-alike g c d a (stands-in (t .pools) (x .progress .address + size))
+        (pick-alike (stands-in (t .pools) (x .progress .address + size))
         (to-label size (atOrAbove (x .next) (x .maps .labels)) x t s)
         (both-on x t s))
 
     handle-label : (size : ℕ) (block : Bool) → Blind g c d a (handleLabel i size block)
     unfolding handleLabel labelRaised raisesLabel
     handle-label size block x t s =
-        then-alike g c d a (λ y. pastPools i size (labelRaised i block y)) (enter-label (i .target ∷ []) x t s) (λ y u r. step (raisesLabel i block y) y u r)
+        then-alike (λ y. pastPools i size (labelRaised i block y)) (enter-label (i .target ∷ []) x t s)
+        (λ y u r. step (raisesLabel i block y) y u r)
       where
         step : (b : Bool) → Blind g c d a (λ y. pastPools i size (pick b (withProgress (raising (i .target) (y .progress)) y) y))
         step true y u r = past-pools size (withProgress (raising (i .target) (y .progress)) y) u r
@@ -217,28 +224,28 @@ module _ (g : Given) (c d : List ℕ) (a : ℕ) where
     branches-alike : (word size : ℕ) (block : Bool) → Blind g c d a (branches i word size block)
     unfolding branches isOtherFunction
     branches-alike word size block x t s =
-        pick-alike g c d a (isIn (g .options .«module_start») (g .options .«module_end») (i .target))
-        (pick-alike g c d a (isOtherFunction i (first g c d a t x))
-        (pick-alike g c d a (both (not (isConditional (i .cond))) (not block)) (both-end (x .progress .address + size) x t) (call-to word arm x t s))
+        pick-alike (isIn (g .options .«module_start») (g .options .«module_end») (i .target))
+        (pick-alike (isOtherFunction i (first g c d a t x))
+        (pick-alike (both (not (isConditional (i .cond))) (not block)) (both-end (x .progress .address + size) x t) (call-to word arm x t s))
         (handle-label size block x t s))
         (call-to word arm x t s)
 
     pub branch-alike : (word size : ℕ) (block : Bool) → Blind g c d a (branch i word size block)
     unfolding branch branched
     branch-alike word size block x t s =
-        pick-alike g c d a (isBranch i) (branches-alike word size block (branched i x) t s) (both-on (branched i x) t s)
+        pick-alike (isBranch i) (branches-alike word size block (branched i x) t s) (both-on (branched i x) t s)
 
     -- a pool load: only the value differs
     loads : (at u v : ℕ) → Words c d (g .options .base) at u v
-        → (x : Context) (t : Twins g c d a) → Stays g c d a (x .progress .address) (x .progress .«last_pool_address»)
+        → (x : Context) (t : Twins g c d a) → Stays g c d a x
         → Alike g c d a (loaded i at (W-Found u) (first g c d a t x)) (loaded i at (W-Found v) (second g c d a t x))
     unfolding holding
     loads at u v w x t s =
         let pools = paired-inserted c d (g .options .base) at u v other w (t .paired) in
         let inside = inside-found c (g .options .base) at u (w .first) in
         rw (paired-length c d (g .options .base) pools)
-        (then-alike g c d a (λ y. on (withProgress (poolTo at (y .progress)) y))
-        (pick-alike g c d a (fits poolRow (g .places .pools) (inserted keyOf (at ∷ u ∷ other ∷ []) (t .pools)))
+        (then-alike (λ y. on (withProgress (poolTo at (y .progress)) y))
+        (pick-alike (fits poolRow (g .places .pools) (inserted keyOf (at ∷ u ∷ other ∷ []) (t .pools)))
         (both-on (withRegisters (holding (x .registers) (i .rd) u at) x)
         (record {
           pools = inserted keyOf (at ∷ u ∷ other ∷ []) (t .pools);
@@ -252,7 +259,7 @@ module _ (g : Given) (c d : List ℕ) (a : ℕ) where
 
     -- what the first code has, a code as long has too
     load-alike : length c ≤ length d → (at : ℕ) (y z : Word) → wordFrom c (g .options .base) at ≡ y → wordFrom d (g .options .base) at ≡ z
-        → (x : Context) (t : Twins g c d a) → Stays g c d a (x .progress .address) (x .progress .«last_pool_address»)
+        → (x : Context) (t : Twins g c d a) → Stays g c d a x
         → Alike g c d a (loaded i at y (first g c d a t x)) (loaded i at z (second g c d a t x))
     load-alike longer at (W-Found u) (W-Found v) e f x t s = loads at u v (record { first = e; second = f }) x t s
     load-alike longer at (W-Found u) Missing e f x t s =
@@ -265,7 +272,7 @@ module _ (g : Given) (c d : List ℕ) (a : ℕ) where
     unfolding poolLoad
     pool-load longer x t s =
         let at = poolAddress (x .progress .address) i in
-        pick-alike g c d a (isPoolLoad i)
+        pick-alike (isPoolLoad i)
         (load-alike longer at (wordFrom c (g .options .base) at) (wordFrom d (g .options .base) at) refl refl x t s)
         (both-on x t s)
 
@@ -291,6 +298,6 @@ module _ (g : Given) (c d : List ℕ) (a : ℕ) where
     check-defined returns x t s =
         let check = g .options .check in
         let defined = x .progress .«defined_registers» in
-        pick-alike g c d a (ltb (undefinedRegister check defined i) 16)
+        pick-alike (ltb (undefinedRegister check defined i) 16)
         (both-refuse undefined (undefinedRegister check defined i))
         (both-on (withProgress (defining (definedAfter check defined i returns) (x .progress)) x) t s)

@@ -26,7 +26,14 @@ pub record Inside (code : List ℕ) (base a : ℕ) : Type 0 where
 first-found : (code : List ℕ) (k : ℕ) → k + 4 ≤ length code → firstWord (drop k code) ≡ Found (bytesFrom code k)
 unfolding firstWord
 first-found code k h =
-    rw (length-drop k code, le-ltb (length code - k) 4 (omega arith), getD-drop k code 0 0, getD-drop k code 1 0, getD-drop k code 2 0, getD-drop k code 3 0)
+    rw (
+      length-drop k code,
+      le-ltb (length code - k) 4 (omega arith),
+      getD-drop k code 0 0,
+      getD-drop k code 1 0,
+      getD-drop k code 2 0,
+      getD-drop k code 3 0,
+    )
 
 pub word-inside : (code : List ℕ) (base a : ℕ) → Inside code base a → wordFrom code base a ≡ Found (bytesFrom code (a - base))
 unfolding wordFrom

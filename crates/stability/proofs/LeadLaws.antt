@@ -22,12 +22,21 @@ use Rattle.walk.specs.declared.Answer.the-variants.{Going, Accepted, Refused}
 use Rattle.walk.specs.declared.Options.{Options}
 use Rattle.walk.specs.declared.Record.{Record}
 use Rattle.walk.specs.declared.Walk.{Walk}
-use Rattle.walk.specs.IntoFunction.{startOf, endOf, intoFunction}
+use Rattle.walk.specs.IntoFunction.{endOf, intoFunction}
 use Rattle.invariants.proofs.BlockLaws.{never-on}
 use Rattle.invariants.proofs.ClassLaws.{entry-no-return}
 use Rattle.invariants.proofs.MoveLaws.{EndsAt, goes-next, goes-past, ends-at}
 use Rattle.invariants.proofs.TurnLaws.{closed-result}
 use Rattle.stability.proofs.TurnLaws.{IsCode, Unrefused}
+
+-- an answer that is no record
+abbrev NoRecord : Answer → Type 0
+NoRecord Going = Unit {0}
+NoRecord (Accepted r) = ⊥
+NoRecord (Refused n a r) = Unit {0}
+
+pub no-record : {x : Answer} {r : Record} → x ≡ Accepted r → NoRecord x → ⊥
+no-record e n = rw e at n
 
 closed-address : (r : Answer) (x : Context) → closed r x .walk .progress .address ≡ x .progress .address
 closed-address Going x = refl
@@ -35,18 +44,19 @@ closed-address (Accepted r) x = refl
 closed-address (Refused n a r) x = refl
 
 -- the record that a step comes to has its end for last instruction end
+abbrev lastOf : Answer → ℕ
+lastOf Going = 0
+lastOf (Accepted r) = r .«last_instruction_end»
+lastOf (Refused n a r) = 0
+
 record-last : (o : Options) (start last lastPool firstPool : ℕ) (r : Record) → intoFunction o start last lastPool firstPool ≡ Accepted r
     → last ≡ r .«last_instruction_end»
 unfolding intoFunction
-record-last o start last lastPool firstPool r e = step (endOf (o .«known_end») last lastPool) (ltb (o .«module_end») (endOf (o .«known_end») last lastPool)) e
+record-last o start last lastPool firstPool r e = step (ltb (o .«module_end») (endOf (o .«known_end») last lastPool)) _ refl e
   where
-    step : (end : ℕ) (b : Bool)
-        → pick b (Refused 14 0 0) (Accepted (record { start = startOf start firstPool; end = end; «first_instruction» = start; «last_instruction_end» = last })) ≡ Accepted r
-        → last ≡ r .«last_instruction_end»
-    step end true h = absurd (let z : _≡_ {A = ℕ} 0 1 = cc in omega arith)
-    step end false h =
-        let same : record { start = startOf start firstPool; end = end; «first_instruction» = start; «last_instruction_end» = last } ≡ r = cc in
-        ap (λ (q : Record). q .«last_instruction_end») same
+    step : (b : Bool) (x : Answer) → last ≡ lastOf x → pick b (Refused 14 0 0) x ≡ Accepted r → last ≡ r .«last_instruction_end»
+    step true x f h = absurd (no-record h tt)
+    step false x f h = f ∙ ap lastOf h
 
 module _ (g : Given) (w : Walk) (m : Maps) where
   abbrev a : ℕ
@@ -100,14 +110,15 @@ module _ (g : Given) (w : Walk) (m : Maps) where
   turn-return word found code p returns kept = rw found (settled-return word code p returns (stepAt word) refl (rw found at kept))
 
   -- a walk ends where its last instruction does
-  settled-ends : (r : Record) (s : Step) → settled before s .walk .result ≡ Accepted r → settled before s .walk .progress .address ≡ r .«last_instruction_end»
-  settled-ends r (on x) e = absurd (let z : _≡_ {A = ℕ} 0 1 = cc in omega arith)
-  settled-ends r (goes x) e = absurd (let z : _≡_ {A = ℕ} 0 1 = cc in omega arith)
+  settled-ends : (r : Record) (s : Step) → settled before s .walk .result ≡ Accepted r
+      → settled before s .walk .progress .address ≡ r .«last_instruction_end»
+  settled-ends r (on x) e = absurd (no-record e tt)
+  settled-ends r (goes x) e = absurd (no-record e tt)
   settled-ends r (ends end x) e =
       closed-address (functionOf end x) (endingAt end x)
       ∙ record-last (x .given .options) (x .progress .start) end (x .progress .«last_pool_address») (keyOr0 (firstKey (x .maps .pools))) r
       (sym (closed-result (functionOf end x) (endingAt end x)) ∙ e)
-  settled-ends r (refuses n k) e = absurd (let z : _≡_ {A = ℕ} 0 1 = cc in omega arith)
+  settled-ends r (refuses n k) e = absurd (no-record e tt)
 
   pub turn-ends : (r : Record) → turn g w m .walk .result ≡ Accepted r → turn g w m .walk .progress .address ≡ r .«last_instruction_end»
   unfolding turn
@@ -115,7 +126,7 @@ module _ (g : Given) (w : Walk) (m : Maps) where
     where
       at : (y : Word) → turnAt y before .walk .result ≡ Accepted r → turnAt y before .walk .progress .address ≡ r .«last_instruction_end»
       at (Found word) h = settled-ends r (stepAt word) h
-      at Missing h = absurd (let z : _≡_ {A = ℕ} 0 1 = cc in omega arith)
+      at Missing h = absurd (no-record h tt)
 
   -- a turn that is not refused has found a word
   pub turn-found : Unrefused (turn g w m .walk .result) → (wordFrom (g .code) (g .options .base) (w .progress .address) ≡ Missing → ⊥)

@@ -62,30 +62,27 @@ module _ (c d : List ℕ) (base : ℕ) where
 
   -- ---- an insertion, and a mark
 
+  pick-paired : {ps qs ps' qs' : List (List ℕ)} (b : Bool) → Paired ps qs → Paired ps' qs' → Paired (pick b ps ps') (pick b qs qs')
+  pick-paired true k k' = k
+  pick-paired false k k' = k'
+
   pub paired-inserted : {ps qs : List (List ℕ)} (a u v m : ℕ) → Words a u v → Paired ps qs
       → Paired (inserted keyOf (a ∷ u ∷ m ∷ []) ps) (inserted keyOf (a ∷ v ∷ m ∷ []) qs)
   unfolding inserted
   paired-inserted a u v m w none = more w none
-  paired-inserted a u v m w (more {a = b} {u = x} {v = y} {m = n} {ps = ps} {qs = qs} z k) = step (ltb b a) (eqb b a) (paired-inserted a u v m w k)
-    where
-      step : (lt eq : Bool) → Paired (inserted keyOf (a ∷ u ∷ m ∷ []) ps) (inserted keyOf (a ∷ v ∷ m ∷ []) qs)
-          → Paired
-          (pick lt ((b ∷ x ∷ n ∷ []) ∷ inserted keyOf (a ∷ u ∷ m ∷ []) ps) (pick eq ((a ∷ u ∷ m ∷ []) ∷ ps) ((a ∷ u ∷ m ∷ []) ∷ (b ∷ x ∷ n ∷ []) ∷ ps)))
-          (pick lt ((b ∷ y ∷ n ∷ []) ∷ inserted keyOf (a ∷ v ∷ m ∷ []) qs) (pick eq ((a ∷ v ∷ m ∷ []) ∷ qs) ((a ∷ v ∷ m ∷ []) ∷ (b ∷ y ∷ n ∷ []) ∷ qs)))
-      step true eq rest = more z rest
-      step false true rest = more w k
-      step false false rest = more w (more z k)
+  paired-inserted a u v m w (more {a = b} z k) =
+      pick-paired (ltb b a) (more z (paired-inserted a u v m w k)) (pick-paired (eqb b a) (more w k) (more w (more z k)))
 
   -- the value of the row with the address
-  abbrev valueAt : ℕ → List (List ℕ) → ℕ
-  valueAt a ps = getD (getD ps (rank keyOf a ps) []) 1 0
+  abbrev valueFor : ℕ → List (List ℕ) → ℕ
+  valueFor a ps = getD (getD ps (rank keyOf a ps) []) 1 0
 
-  paired-value : {ps qs : List (List ℕ)} (a : ℕ) → Paired ps qs → stands keyOf a ps ≡ true → Words a (valueAt a ps) (valueAt a qs)
+  paired-value : {ps qs : List (List ℕ)} (a : ℕ) → Paired ps qs → stands keyOf a ps ≡ true → Words a (valueFor a ps) (valueFor a qs)
   unfolding rank stands
   paired-value a none e = absurd (false≢true e)
   paired-value a (more {a = b} {u = u} {v = v} {m = m} {ps = ps} {qs = qs} w k) e = step (ltb b a) (eqb b a) refl (paired-value a k) e
     where
-      step : (lt eq : Bool) → eqb b a ≡ eq → (stands keyOf a ps ≡ true → Words a (valueAt a ps) (valueAt a qs))
+      step : (lt eq : Bool) → eqb b a ≡ eq → (stands keyOf a ps ≡ true → Words a (valueFor a ps) (valueFor a qs))
           → pick lt (stands keyOf a ps) eq ≡ true
           → Words a
           (getD (getD ((b ∷ u ∷ m ∷ []) ∷ ps) (pick lt (suc (rank keyOf a ps)) 0) []) 1 0)
@@ -99,6 +96,6 @@ module _ (c d : List ℕ) (base : ℕ) where
   paired-marked {ps} {qs} a k = rw (paired-stands a k) (step (stands keyOf a ps) refl)
     where
       step : (b : Bool) → stands keyOf a ps ≡ b
-          → Paired (pick b (inserted keyOf (a ∷ valueAt a ps ∷ call ∷ []) ps) ps) (pick b (inserted keyOf (a ∷ valueAt a qs ∷ call ∷ []) qs) qs)
-      step true e = paired-inserted a (valueAt a ps) (valueAt a qs) call (paired-value a k e) k
+          → Paired (pick b (inserted keyOf (a ∷ valueFor a ps ∷ call ∷ []) ps) ps) (pick b (inserted keyOf (a ∷ valueFor a qs ∷ call ∷ []) qs) qs)
+      step true e = paired-inserted a (valueFor a ps) (valueFor a qs) call (paired-value a k e) k
       step false e = k

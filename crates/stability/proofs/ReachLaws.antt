@@ -24,7 +24,7 @@ use Rattle.walk.specs.IntoFunction.{begun}
 use Rattle.invariants.proofs.CheckLaws.{Begins, Passed, number-begins, begins-number, number-passed, passed-begins}
 use Rattle.stability.specs.Runs.{Action, steps, finishes, afterAction, runFrom, Answers, here, later}
 use Rattle.stability.proofs.TurnLaws.{Unrefused}
-use Rattle.stability.proofs.LeadLaws.{turn-rises, turn-ends}
+use Rattle.stability.proofs.LeadLaws.{no-record, turn-rises, turn-ends}
 use Rattle.stability.proofs.StepLaws.{turnOf}
 
 module _ (o : Options) (starts c : List ℕ) (r : Record) where
@@ -61,7 +61,7 @@ module _ (o : Options) (starts c : List ℕ) (r : Record) where
   finish-honest x h = record { says = go (x .walk .result); ends = h .ends }
     where
       go : (a : Answer) → pick (isGoing a) (refused notDone) a ≡ Accepted r → a ≡ Accepted r
-      go Going e = absurd (let z : _≡_ {A = ℕ} 0 1 = cc in omega arith)
+      go Going e = absurd (no-record e tt)
       go (Accepted q) e = e
       go (Refused n a q) e = e
 
@@ -77,7 +77,7 @@ module _ (o : Options) (starts c : List ℕ) (r : Record) where
       where
         go : (p q : Bool) → Honest (stepBy p q)
         go true true = record { says = λ k. k; ends = turn-ends (givenBy o c starts l) w (mapsIn (w .counts) l) r }
-        go true false = record { says = λ k. absurd (let z : _≡_ {A = ℕ} 0 1 = cc in omega arith); ends = h }
+        go true false = record { says = λ k. absurd (no-record k tt); ends = h }
         go false q = record { says = λ k. k; ends = h }
 
     -- one that is refused by 1 to 4 changes nothing, so each later one is refused too
@@ -85,7 +85,8 @@ module _ (o : Options) (starts c : List ℕ) (r : Record) where
     unfolding step
     step-reaches = go (isGoing (w .result)) (eqb (numberAt o c starts w l) 0) refl refl
       where
-        go : (p q : Bool) → isGoing (w .result) ≡ p → eqb (numberAt o c starts w l) 0 ≡ q → Reaches (stepBy p q .walk) (stepBy p q .lists) → Reaches w l
+        go : (p q : Bool) → isGoing (w .result) ≡ p → eqb (numberAt o c starts w l) 0 ≡ q → Reaches (stepBy p q .walk) (stepBy p q .lists)
+            → Reaches w l
         go true true e f next = goes e (number-passed o c starts w l (eqb-true _ _ f)) next
         go true false e f next = next
         go false q e f next = next
@@ -116,13 +117,13 @@ module _ (o : Options) (starts c : List ℕ) (r : Record) where
     begin-honest = go (eqb number 0)
       where
         go : (b : Bool) → Honest (beginBy b)
-        go true = record { says = λ e. absurd (let z : _≡_ {A = ℕ} 0 1 = cc in omega arith); ends = λ e. absurd (let z : _≡_ {A = ℕ} 0 1 = cc in omega arith) }
-        go false = record { says = λ e. absurd (let z : _≡_ {A = ℕ} 0 1 = cc in omega arith); ends = λ e. absurd (let z : _≡_ {A = ℕ} 0 1 = cc in omega arith) }
+        go true = record { says = λ e. absurd (no-record e tt); ends = λ e. absurd (no-record e tt) }
+        go false = record { says = λ e. absurd (no-record e tt); ends = λ e. absurd (no-record e tt) }
 
     -- a begin that is refused comes to no record: each step is refused too
     stuck : eqb number 0 ≡ false → Reaches (begun start n) l → ⊥
     unfolding begun
-    stuck e (ended f at) = let z : _≡_ {A = ℕ} 0 1 = cc in omega arith
+    stuck e (ended f at) = no-record f tt
     stuck e (goes g p next) =
         let passes : number ≡ 0 = begins-number o start c starts (passed-begins o c starts (begun start n) l p) in
         let same : eqb number 0 ≡ true = eq-eqb _ _ passes in

@@ -18,7 +18,8 @@ use Rattle.walk.specs.declared.Walk.{Walk}
 use Rattle.walk.specs.IntoFunction.{begun}
 use Rattle.invariants.proofs.CheckLaws.{Begins, Passed, begins-number, passed-number}
 use Rattle.invariants.proofs.KeptLaws.{none-fits}
-use Rattle.stability.specs.Runs.{Action, steps, finishes, runFrom, run, Answers, here, later, Agree, SameLengths, Same, SameRuns, done, more, Stable}
+use Rattle.stability.specs.Runs.{Action, steps, finishes, runFrom, run, Answers, here, later, Agree, SameLengths, Same, SameRuns, done, more}
+use Rattle.stability.specs.Runs.{Stable}
 use Rattle.stability.proofs.PairLaws.{none}
 use Rattle.stability.proofs.TurnLaws.{revalued}
 use Rattle.stability.proofs.SliceLaws.{Slices, paired-slices, same-pools, first-valued, second-valued}
@@ -49,12 +50,13 @@ module _ (o : Options) (starts c d : List ℕ) (longer : length c ≤ length d) 
   abbrev second : Walk → Lists → Answer → List ℕ → List ℕ → After
   second w l a values pools = record { walk = revalued values w; lists = relisted pools l; answer = a }
 
-  record Twin (w : Walk) (l : Lists) (pools : List ℕ) : Type 0 where
+  record InStep (w : Walk) (l : Lists) (pools : List ℕ) : Type 0 where
     above : start ≤ w .progress .address
     slices : Slices c d (o .base) (w .counts .pools) (l .pools) pools
 
-  twin-same : (w : Walk) (l : Lists) (a : Answer) (values pools : List ℕ) → Twin w l pools → Same c d (o .base) (first w l a) (second w l a values pools)
-  twin-same w l a values pools t = record {
+  in-step-same : (w : Walk) (l : Lists) (a : Answer) (values pools : List ℕ) → InStep w l pools
+      → Same c d (o .base) (first w l a) (second w l a values pools)
+  in-step-same w l a values pools t = record {
     answers = refl;
     counts = refl;
     labels = refl;
@@ -70,32 +72,33 @@ module _ (o : Options) (starts c d : List ℕ) (longer : length c ≤ length d) 
   abbrev SameFrom : List Action → After → After → Type 0
   SameFrom ks x y = SameRuns c d (o .base) (runFrom o c starts x ks) (runFrom o d starts y ks)
 
-  same-runs : (ks : List Action) (w : Walk) (l : Lists) (a : Answer) (values pools : List ℕ) → Twin w l pools → Reaches o starts c r w l
+  same-runs : (ks : List Action) (w : Walk) (l : Lists) (a : Answer) (values pools : List ℕ) → InStep w l pools → Reaches o starts c r w l
       → SameFrom ks (first w l a) (second w l a values pools)
   unfolding runFrom finish
-  same-runs [] w l a values pools t reach = more (twin-same w l a values pools t) done
+  same-runs [] w l a values pools t reach = more (in-step-same w l a values pools t) done
   same-runs (finishes ∷ ks) w l a values pools t reach =
-      more (twin-same w l a values pools t) (same-runs ks w l (finish w) values pools t reach)
+      more (in-step-same w l a values pools t) (same-runs ks w l (finish w) values pools t reach)
   same-runs (steps ∷ ks) w l a values pools t (ended e at) =
       let over : isGoing (w .result) ≡ false = rw e in
       let rest : SameFrom ks (step o c starts w l) (step o d starts (revalued values w) (relisted pools l)) =
       rw (step-over o c starts w l over, step-over o d starts (revalued values w) (relisted pools l) over)
       (same-runs ks w l (w .result) values pools t (ended e at)) in
-      more (twin-same w l a values pools t) rest
+      more (in-step-same w l a values pools t) rest
   same-runs (steps ∷ ks) w l a values pools t (goes g p next) =
       let last = r .«last_instruction_end» in
       let kept = reaches-kept o starts c r next in
       let below = reaches-below o starts c r next in
       let up = turn-rises (givenBy o c starts l) w (mapsIn (w .counts) l) in
       let low = t .above in
-      let k = turn-same o starts c d longer start last agree w l values pools (t .slices) p low kept below in
-      let slices = turn-slices o starts c d longer start last agree w l values pools (t .slices) p low kept below _ k in
+      let k = turn-same o starts c d longer w l values pools (t .slices) p start last agree low kept below in
+      let slices = turn-slices o starts c d longer w l values pools (t .slices) p _ k in
+      let other = passed-longer o c d starts longer fits w l values pools (t .slices) p in
       let rest : SameFrom ks (step o c starts w l) (step o d starts (revalued values w) (relisted pools l)) =
-      rw (step-on o c starts w l g p, step-on o d starts (revalued values w) (relisted pools l) g (passed-longer o c d starts longer fits w l values pools (t .slices) p), k .walk, k .maps)
+      rw (step-on o c starts w l g p, step-on o d starts (revalued values w) (relisted pools l) g other, k .walk, k .maps)
       (same-runs ks (turnOf o c starts w l .walk) (written l (turnOf o c starts w l .maps)) (turnOf o c starts w l .walk .result) (k .values) _
       (record { above = omega arith; slices = rw (k .maps) at slices })
       next) in
-      more (twin-same w l a values pools t) rest
+      more (in-step-same w l a values pools t) rest
 
 -- ---- begins
 
@@ -130,7 +133,12 @@ stable o start starts c d longer fits n₀ l₀ ks₀ r answers agree = record {
         let reach = run-reaches o starts c r start n₀ l₀ ks₀ answers in
         let walk = begun start (countsOf noMaps) in
         let empty = none-fits (placesOf l₀) .pools in
-        rw (begin-passed o start c starts n l (reach .0), begin-passed o start d starts n' m (begins-longer o c d starts longer fits start (reach .0)), same-zeros l₀ l long-l, same-zeros l₀ m long-m)
+        rw (
+          begin-passed o start c starts n l (reach .0),
+          begin-passed o start d starts n' m (begins-longer o c d starts longer fits start (reach .0)),
+          same-zeros l₀ l long-l,
+          same-zeros l₀ m long-m,
+        )
         (same-runs o starts c d longer fits start r agree ks walk (zeroed l₀) Going (walk .registers .values) (zeroed l₀ .pools)
         (record { above = omega arith; slices = paired-slices c d (o .base) (empty .is) (empty .room) none })
         (reach .1))

@@ -1,5 +1,4 @@
--- One turn that passed the checks and is not refused, on two codes that agree up to four bytes past where it leads: the same, but for the
--- values of pools and in registers.
+-- One turn that passed the checks, on two codes: the same, but for the values of pools and in registers.
 -- Assumes nothing.
 use mathlib.Core.Path.{_≡_, refl, ap}
 use mathlib.Core.Bool.{true}
@@ -17,8 +16,6 @@ use Rattle.context.specs.Blocks.{isEntryWord, isEntryAt}
 use Rattle.context.specs.Context.{poolRow}
 use Rattle.context.specs.Lists.{Lists, mapsIn, written, givenBy}
 use Rattle.context.specs.Turn.{armSize, Turned, turn, keyOr0}
-use Rattle.predicates.specs.declared.Previous.{Previous}
-use Rattle.predicates.specs.Predicates.{isReturn}
 use Rattle.rows.specs.Map.{keyOf, mapIn, lastKey}
 use Rattle.validity.specs.Validity.{isWhole, areWhole}
 use Rattle.walk.specs.declared.Options.{Options}
@@ -28,8 +25,7 @@ use Rattle.invariants.proofs.KeptLaws.{turn-fits}
 use Rattle.invariants.proofs.TurnLaws.{turn-counts}
 use Rattle.stability.specs.Runs.{Agree}
 use Rattle.stability.proofs.CodeLaws.{inside-found, same-word}
-use Rattle.stability.proofs.BlindLaws.{SameEntry}
-use Rattle.stability.proofs.TurnLaws.{IsCode, Unrefused, revalued, SameTurn, turn-alike, kept-same}
+use Rattle.stability.proofs.TurnLaws.{SameBehind, Unrefused, revalued, SameTurn, AlikeTurn, turn-alike, kept-same, long-same}
 use Rattle.stability.proofs.SliceLaws.{Slices, paired-slices}
 use Rattle.stability.proofs.LongerLaws.{relisted}
 use Rattle.stability.proofs.LeadLaws.{turn-rises, turn-return, turn-found}
@@ -48,44 +44,58 @@ last-whole base n (p ∷ []) e =
     omega arith
 last-whole base n (p ∷ q ∷ ps) e = last-whole base n (q ∷ ps) (both-true (isWhole base n (keyOf p)) _ e .1)
 
-module _ (o : Options) (starts c d : List ℕ) (longer : length c ≤ length d) (from to : ℕ) (agree : Agree c d (o .base) from (to + 4))
-    (w : Walk) (l : Lists) (values pools : List ℕ) (s : Slices c d (o .base) (w .counts .pools) (l .pools) pools)
-    (passed : Passed o c starts w l) (above : from ≤ w .progress .address)
-    (kept : Unrefused (turnOf o c starts w l .walk .result)) (below : turnOf o c starts w l .walk .progress .address ≤ to) where
+module _ (o : Options) (starts c d : List ℕ) (longer : length c ≤ length d) (w : Walk) (l : Lists) (values pools : List ℕ)
+    (s : Slices c d (o .base) (w .counts .pools) (l .pools) pools) (passed : Passed o c starts w l) where
   abbrev a : ℕ
   a = w .progress .address
 
-  here : wordFrom d (o .base) a ≡ wordFrom c (o .base) a
-  here = step (wordFrom c (o .base) a) refl
-    where
-      step : (y : Word) → wordFrom c (o .base) a ≡ y → wordFrom d (o .base) a ≡ wordFrom c (o .base) a
-      step (Found word) e =
-          let up = turn-rises (givenBy o c starts l) w (mapsIn (w .counts) l) in
-          same-word c d (o .base) longer from (to + 4) agree a (inside-found c (o .base) a word e) above (omega arith)
-      step Missing e = absurd (turn-found (givenBy o c starts l) w (mapsIn (w .counts) l) kept e)
-
-  -- behind a return the turn leads on
-  entry : (word : ℕ) → wordFrom c (o .base) a ≡ Found word → IsCode a (mapsIn (w .counts) l) → (p : Previous)
-      → isReturn a (decodeOf word a) p ≡ true → SameEntry c d (o .base) (a + armSize)
-  unfolding isEntryAt
-  entry word found code p returns inside =
-      let past = turn-return (givenBy o c starts l) w (mapsIn (w .counts) l) word found code p returns kept in
-      let start = passed .above in
-      ap (λ (y : Word). isEntryWord y (a + armSize))
-      (same-word c d (o .base) longer from (to + 4) agree (a + armSize) (record { low = omega arith; high = inside }) (omega arith) (omega arith))
-
-  pub turn-same : SameTurn c d (o .base) (turnOf o c starts w l) (turnOf o d starts (revalued values w) (relisted pools l))
-  turn-same =
+  alike : wordFrom d (o .base) a ≡ wordFrom c (o .base) a
+      → ((word : ℕ) → wordFrom c (o .base) a ≡ Found word → SameBehind c d (o .base) a armSize (decodeOf word a) (mapsIn (w .counts) l))
+      → AlikeTurn c d (o .base) (turnOf o c starts w l) (turnOf o d starts (revalued values w) (relisted pools l))
+  alike here behind =
       let last = rw (← passed .last) at (last-whole (o .base) (length c) (mapsIn (w .counts) l .pools) (passed .whole)) in
       rw (← s .long)
-      (kept-same
-      (turn-alike (givenBy o c starts l) c d longer w (mapsIn (w .counts) l) (mapIn poolRow (w .counts .pools) pools) values (s .paired) last here entry)
-      kept)
+      (turn-alike (givenBy o c starts l) c d longer w (mapsIn (w .counts) l) (mapIn poolRow (w .counts .pools) pools) values (s .paired)
+      last here behind)
 
-  -- the slices after it
+  -- the pools' slices after a turn
   pub turn-slices : (t : Turned) → SameTurn c d (o .base) (turnOf o c starts w l) t
-      → Slices c d (o .base) (turnOf o c starts w l .walk .counts .pools) (written l (turnOf o c starts w l .maps) .pools) (written (relisted pools l) (t .maps) .pools)
+      → Slices c d (o .base) (turnOf o c starts w l .walk .counts .pools)
+      (written l (turnOf o c starts w l .maps) .pools)
+      (written (relisted pools l) (t .maps) .pools)
   turn-slices t k =
       let fit = turn-fits o c starts w l passed .pools in
       rw (turn-counts (givenBy o c starts l) w (mapsIn (w .counts) l), k .maps, ← s .long)
       (paired-slices c d (o .base) (fit .is) (fit .room) (k .paired))
+
+  -- on a code as long, with the same words here and behind, any turn is the same: a refused one too
+  pub turn-long : length c ≡ length d → wordFrom d (o .base) (w .progress .address) ≡ wordFrom c (o .base) (w .progress .address)
+      → wordFrom d (o .base) (w .progress .address + armSize) ≡ wordFrom c (o .base) (w .progress .address + armSize)
+      → SameTurn c d (o .base) (turnOf o c starts w l) (turnOf o d starts (revalued values w) (relisted pools l))
+  unfolding isEntryAt
+  turn-long long here next =
+      long-same long (alike here (λ word found code p returns inside. ap (λ (y : Word). isEntryWord y (a + armSize)) next))
+
+  -- on a longer code, one that is not refused, where the codes agree up to four bytes past where it leads
+  module _ (from to : ℕ) (agree : Agree c d (o .base) from (to + 4)) (above : from ≤ w .progress .address)
+      (kept : Unrefused (turnOf o c starts w l .walk .result)) (below : turnOf o c starts w l .walk .progress .address ≤ to) where
+    here : wordFrom d (o .base) a ≡ wordFrom c (o .base) a
+    here = step (wordFrom c (o .base) a) refl
+      where
+        step : (y : Word) → wordFrom c (o .base) a ≡ y → wordFrom d (o .base) a ≡ wordFrom c (o .base) a
+        step (Found word) e =
+            let up = turn-rises (givenBy o c starts l) w (mapsIn (w .counts) l) in
+            same-word c d (o .base) longer from (to + 4) agree a (inside-found c (o .base) a word e) above (omega arith)
+        step Missing e = absurd (turn-found (givenBy o c starts l) w (mapsIn (w .counts) l) kept e)
+
+    -- a return leads past itself
+    behind : (word : ℕ) → wordFrom c (o .base) a ≡ Found word → SameBehind c d (o .base) a armSize (decodeOf word a) (mapsIn (w .counts) l)
+    unfolding isEntryAt
+    behind word found code p returns inside =
+        let past = turn-return (givenBy o c starts l) w (mapsIn (w .counts) l) word found code p returns kept in
+        let start = passed .above in
+        ap (λ (y : Word). isEntryWord y (a + armSize))
+        (same-word c d (o .base) longer from (to + 4) agree (a + armSize) (record { low = omega arith; high = inside }) (omega arith) (omega arith))
+
+    pub turn-same : SameTurn c d (o .base) (turnOf o c starts w l) (turnOf o d starts (revalued values w) (relisted pools l))
+    turn-same = kept-same (alike here behind) kept

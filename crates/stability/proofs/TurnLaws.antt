@@ -15,7 +15,9 @@ use Rattle.base.specs.declared.word.Word.the-variants.{Found, Missing}
 use Rattle.base.specs.Choice.{pick}
 use Rattle.base.specs.Refusals.{poolOutside, beyond32Bits, noEpilogue}
 use Rattle.base.specs.Words.{wordFrom}
-use Rattle.context.specs.Blocks.{endOf, inlineTableAt, skipsTo, skipPool, skipInlineTable, jumpTable, illegalCode, branchOutside, markPool, forgetWritten, inConditionalBlock, entryAfterBranch, branch, poolLoad, inlineTable, functionCall, checkDefined, fromReturn, toReturn, handleInsInner, passed, handleIns}
+use Rattle.context.specs.Blocks.{endOf, inlineTableAt, skipsTo, skipPool, skipInlineTable, jumpTable, illegalCode, branchOutside, markPool}
+use Rattle.context.specs.Blocks.{forgetWritten, inConditionalBlock, entryAfterBranch, branch, poolLoad, inlineTable, functionCall, checkDefined}
+use Rattle.context.specs.Blocks.{fromReturn, toReturn, handleInsInner, passed, handleIns}
 use Rattle.context.specs.Context.{Maps, Given, Context, Step, on, goes, refuses, _▸_, goingTo, withProgress, moving, poolsTo}
 use Rattle.context.specs.Turn.{armSize, Turned, contextAt, walkOf, closed, functionOf, endingAt, settled, turnAt, turn}
 use Rattle.predicates.specs.declared.Previous.{Previous}
@@ -25,28 +27,35 @@ use Rattle.walk.specs.declared.Answer.{Answer}
 use Rattle.walk.specs.declared.Answer.the-variants.{Going, Accepted, Refused}
 use Rattle.walk.specs.declared.Walk.{Walk}
 use Rattle.stability.proofs.PairLaws.{Paired, none as no-pools, paired-length, paired-stands, paired-first}
-use Rattle.stability.proofs.AlikeLaws.{Twins, Stays, Alike, both-on, both-go, both-end, both-refuse, first-lacks, Blind, first, second, then-alike, codeTo}
-use Rattle.stability.proofs.BlindLaws.{SameEntry, jump-table, illegal-code, branch-outside, mark-pool, forget-written, final-return, entry-after-branch, branch-alike, pool-load, inline-table, function-call, check-defined}
+use Rattle.stability.proofs.AlikeLaws.{Twins, Stays, Alike, both-on, both-go, both-end, both-refuse, first-lacks, Blind, first, second}
+use Rattle.stability.proofs.AlikeLaws.{then-alike, codeTo}
+use Rattle.stability.proofs.BlindLaws.{SameEntry, jump-table, illegal-code, branch-outside, mark-pool, forget-written, final-return}
+use Rattle.stability.proofs.BlindLaws.{entry-after-branch, branch-alike, pool-load, inline-table, function-call, check-defined}
 
 -- no pool and no inline table lies at the address
 pub record IsCode (a : ℕ) (m : Maps) : Type 0 where
   pub pools : stands-in (m .pools) a ≡ false
   pub tables : inlineTableAt a (m .«inline_tables») ≡ none
 
+-- what is read behind an instruction that returns
+abbrev pub SameBehind : List ℕ → List ℕ → ℕ → ℕ → ℕ → Ins → Maps → Type 0
+SameBehind c d base a size i m = IsCode a m → (p : Previous) → isReturn a i p ≡ true → SameEntry c d base (a + size)
+
 -- ---- an instruction
 
 module _ (g : Given) (c d : List ℕ) (longer : length c ≤ length d) (a : ℕ) (i : Ins) (word size : ℕ) where
-  from-return : (block returns : Bool) → (returns ≡ true → SameEntry c d (g .options .base) (a + size)) → Blind g c d a (fromReturn i word size block returns)
+  from-return : (block returns : Bool) → (returns ≡ true → SameEntry c d (g .options .base) (a + size))
+      → Blind g c d a (fromReturn i word size block returns)
   unfolding fromReturn
   from-return block returns entry x t s =
       let one = final-return g c d a i word size block returns entry x t s in
-      let two = then-alike g c d a (entryAfterBranch i block) one (entry-after-branch g c d a i block) in
-      let three = then-alike g c d a (branch i word size block) two (branch-alike g c d a i word size block) in
-      let four = then-alike g c d a (poolLoad i) three (pool-load g c d a i longer) in
-      let five = then-alike g c d a (inlineTable i) four (inline-table g c d a i) in
-      let six = then-alike g c d a (functionCall i word) five (function-call g c d a i word) in
-      let seven = then-alike g c d a (checkDefined i returns) six (check-defined g c d a i returns) in
-      then-alike g c d a goes seven (λ y u r. both-go y u)
+      let two = then-alike (entryAfterBranch i block) one (entry-after-branch g c d a i block) in
+      let three = then-alike (branch i word size block) two (branch-alike g c d a i word size block) in
+      let four = then-alike (poolLoad i) three (pool-load g c d a i longer) in
+      let five = then-alike (inlineTable i) four (inline-table g c d a i) in
+      let six = then-alike (functionCall i word) five (function-call g c d a i word) in
+      let seven = then-alike (checkDefined i returns) six (check-defined g c d a i returns) in
+      then-alike goes seven (λ y u r. both-go y u)
 
   abbrev afterReturn : Context → Step
   afterReturn x = fromReturn i word size (inConditionalBlock x) (isReturn (x .progress .address) i (x .progress .previous)) x
@@ -62,19 +71,20 @@ module _ (g : Given) (c d : List ℕ) (longer : length c ≤ length d) (a : ℕ)
         from-return (inConditionalBlock x) (isReturn (x .progress .address) i (x .progress .previous))
         (λ r. entry (x .progress .previous) (rw (s .at) at r)) x t s
 
-    as-code : (x : Context) (t : Twins g c d a) → Stays g c d a (x .progress .address) (x .progress .«last_pool_address»)
+    as-code : (x : Context) (t : Twins g c d a) → Stays g c d a x
         → Alike g c d a (asCode (on (first g c d a t x))) (asCode (on (second g c d a t x)))
     as-code x t s =
         let one = jump-table g c d a i x t s in
-        let two = then-alike g c d a (illegalCode i) one (illegal-code g c d a i) in
-        let three = then-alike g c d a (branchOutside i) two (branch-outside g c d a i) in
-        let four = then-alike g c d a (markPool i) three (mark-pool g c d a i) in
-        let five = then-alike g c d a (forgetWritten i) four (forget-written g c d a i) in
-        then-alike g c d a afterReturn five after-return
+        let two = then-alike (illegalCode i) one (illegal-code g c d a i) in
+        let three = then-alike (branchOutside i) two (branch-outside g c d a i) in
+        let four = then-alike (markPool i) three (mark-pool g c d a i) in
+        let five = then-alike (forgetWritten i) four (forget-written g c d a i) in
+        then-alike afterReturn five after-return
 
-  module _ (x : Context) (t : Twins g c d a) (s : Stays g c d a (x .progress .address) (x .progress .«last_pool_address»))
-      (entry : IsCode a (poolsTo (t .pools) (x .maps)) → (p : Previous) → isReturn a i p ≡ true → SameEntry c d (g .options .base) (a + size)) where
-    past-pool : stands-in (t .pools) (x .progress .address) ≡ false → Alike g c d a (asCode (skipInlineTable (first g c d a t x))) (asCode (skipInlineTable (second g c d a t x)))
+  module _ (x : Context) (t : Twins g c d a) (s : Stays g c d a x)
+      (behind : SameBehind c d (g .options .base) a size i (poolsTo (t .pools) (x .maps))) where
+    past-pool : stands-in (t .pools) (x .progress .address) ≡ false
+        → Alike g c d a (asCode (skipInlineTable (first g c d a t x))) (asCode (skipInlineTable (second g c d a t x)))
     unfolding skipInlineTable
     past-pool e = step (inlineTableAt (x .progress .address) (x .maps .«inline_tables»)) refl
       where
@@ -87,12 +97,13 @@ module _ (g : Given) (c d : List ℕ) (longer : length c ≤ length d) (a : ℕ)
 
         step : (table : Option (List ℕ)) → inlineTableAt (x .progress .address) (x .maps .«inline_tables») ≡ table
             → Alike g c d a (asCode (skipsTo table (first g c d a t x))) (asCode (skipsTo table (second g c d a t x)))
-        step none f = as-code (entry (record { pools = rw (s .at) at e; tables = rw (s .at) at f })) x t s
+        step none f = as-code (behind (record { pools = rw (s .at) at e; tables = rw (s .at) at f })) x t s
         step (some table) f = skips (ltb (endOf table) 0x1_0000_0000) (endOf table)
 
     inner-alike : Alike g c d a (handleInsInner i word size (first g c d a t x)) (handleInsInner i word size (second g c d a t x))
     unfolding handleInsInner toReturn skipPool
-    inner-alike = rw (paired-stands c d (g .options .base) (x .progress .address) (t .paired)) (step (stands-in (t .pools) (x .progress .address)) refl)
+    inner-alike =
+        rw (paired-stands c d (g .options .base) (x .progress .address) (t .paired)) (step (stands-in (t .pools) (x .progress .address)) refl)
       where
         step : (b : Bool) → stands-in (t .pools) (x .progress .address) ≡ b
             → Alike g c d a
@@ -108,11 +119,11 @@ module _ (g : Given) (c d : List ℕ) (longer : length c ≤ length d) (a : ℕ)
   passed-alike (both-refuse n r) = both-refuse n r
   passed-alike (first-lacks h) = first-lacks h
 
-  pub handle-ins : (x : Context) (t : Twins g c d a) → Stays g c d a (x .progress .address) (x .progress .«last_pool_address»)
-      → (IsCode a (poolsTo (t .pools) (x .maps)) → (p : Previous) → isReturn a i p ≡ true → SameEntry c d (g .options .base) (a + size))
+  pub handle-ins : (x : Context) (t : Twins g c d a) → Stays g c d a x
+      → SameBehind c d (g .options .base) a size i (poolsTo (t .pools) (x .maps))
       → Alike g c d a (handleIns i word size (first g c d a t x)) (handleIns i word size (second g c d a t x))
   unfolding handleIns
-  handle-ins x t s entry = passed-alike (inner-alike (goingTo (x .progress .address + size) x) t s entry)
+  handle-ins x t s behind = passed-alike (inner-alike (goingTo (x .progress .address + size) x) t s behind)
 
 -- ---- a turn
 
@@ -174,9 +185,8 @@ module _ (g : Given) (c d : List ℕ) (longer : length c ≤ length d) (w : Walk
     (paired : Paired c d (g .options .base) (m .pools) pools)
     (last : w .progress .«last_pool_address» ≤ g .options .base + length c - 4)
     (here : wordFrom d (g .options .base) (w .progress .address) ≡ wordFrom c (g .options .base) (w .progress .address))
-    (entry : (word : ℕ) → wordFrom c (g .options .base) (w .progress .address) ≡ Found word → IsCode (w .progress .address) m
-    → (p : Previous) → isReturn (w .progress .address) (decodeOf word (w .progress .address)) p ≡ true
-    → SameEntry c d (g .options .base) (w .progress .address + armSize)) where
+    (behind : (word : ℕ) → wordFrom c (g .options .base) (w .progress .address) ≡ Found word
+    → SameBehind c d (g .options .base) (w .progress .address) armSize (decodeOf word (w .progress .address)) m) where
   abbrev at : ℕ
   at = w .progress .address
 
@@ -188,10 +198,12 @@ module _ (g : Given) (c d : List ℕ) (longer : length c ≤ length d) (w : Walk
   turn-alike = rw here (step (wordFrom c (g .options .base) at) refl)
     where
       step : (y : Word) → wordFrom c (g .options .base) at ≡ y
-          → AlikeTurn c d (g .options .base) (turnAt y (contextAt (codeTo c g) w m)) (turnAt y (contextAt (codeTo d g) (revalued values w) (poolsTo pools m)))
+          → AlikeTurn c d (g .options .base)
+          (turnAt y (contextAt (codeTo c g) w m))
+          (turnAt y (contextAt (codeTo d g) (revalued values w) (poolsTo pools m)))
       step (Found word) e =
           settled-alike g c d at (contextAt g w m) twins
-          (handle-ins g c d longer at (decodeOf word at) word armSize (contextAt g w m) twins (record { at = refl; last = last }) (entry word e))
+          (handle-ins g c d longer at (decodeOf word at) word armSize (contextAt g w m) twins (record { at = refl; last = last }) (behind word e))
       step Missing e = closed-alike g c d at (Refused noEpilogue 0 0) (contextAt g w m) twins
 
 -- going on, or a record

@@ -52,25 +52,25 @@ pub record SameLengths (l m : Lists) : Type 0 where
   pub calls : length (l .calls) ≡ length (m .calls)
 
 -- a pool's row: address, value, mark
-abbrev pub poolAddress : List ℕ → ℕ → ℕ
-poolAddress pools i = getD pools (i * poolRow) 0
+abbrev pub addressAt : List ℕ → ℕ → ℕ
+addressAt pools i = getD pools (i * poolRow) 0
 
-abbrev pub poolValue : List ℕ → ℕ → ℕ
-poolValue pools i = getD pools (i * poolRow + 1) 0
+abbrev pub valueAt : List ℕ → ℕ → ℕ
+valueAt pools i = getD pools (i * poolRow + 1) 0
 
-abbrev pub poolMark : List ℕ → ℕ → ℕ
-poolMark pools i = getD pools (i * poolRow + 2) 0
+abbrev pub markAt : List ℕ → ℕ → ℕ
+markAt pools i = getD pools (i * poolRow + 2) 0
 
 -- the first n pools are the same but for their values
 pub record SamePools (n : ℕ) (p q : List ℕ) : Type 0 where
   pub lengths : length p ≡ length q
-  pub addresses : (i : ℕ) → i < n → poolAddress p i ≡ poolAddress q i
-  pub marks : (i : ℕ) → i < n → poolMark p i ≡ poolMark q i
+  pub addresses : (i : ℕ) → i < n → addressAt p i ≡ addressAt q i
+  pub marks : (i : ℕ) → i < n → markAt p i ≡ markAt q i
 
 -- the value of each of the first n pools is the word at its address in the code, and the places after them hold zero
 pub record Valued (code : List ℕ) (base n : ℕ) (pools : List ℕ) : Type 0 where
   pub fits : n * poolRow ≤ length pools
-  pub words : (i : ℕ) → i < n → wordFrom code base (poolAddress pools i) ≡ Found (poolValue pools i)
+  pub words : (i : ℕ) → i < n → wordFrom code base (addressAt pools i) ≡ Found (valueAt pools i)
   pub zeros : (i : ℕ) → n * poolRow ≤ i → getD pools i 0 ≡ 0
 
 -- equal answers, counts and entries, but that a pool's value is the word in that run's own code
