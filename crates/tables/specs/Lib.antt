@@ -1,0 +1,2 @@
+-- What a search among the inline tables promises.
+pub mod Tables
