@@ -1,8 +1,8 @@
 -- A return's long-branch test and tail call, and a branch by where it goes.
 -- Assumes nothing.
-use mathlib.Core.Path.{_≡_, refl, sym, ap, _∙_}
+use mathlib.Core.Path.{_≡_, refl, ap, _∙_}
 use mathlib.Core.Bool.{Bool, true, false, not}
-use mathlib.Core.List.{List, []}
+use mathlib.Core.List.{List}
 use Prim.Native.Nat.{ℕ, _+_, _<_, _^_}
 use lib.Dec.{ltb}
 use lib.ListN.{length}
@@ -17,35 +17,39 @@ use Rattle.walk.specs.declared.Options.{Options}
 use Rattle.context.specs.declared.Put.the-variants.{Call}
 use Rattle.context.specs.declared.State.{State}
 use Rattle.context.specs.declared.Stepped.{Stepped}
-use Rattle.context.specs.declared.Then.the-variants.{On, Ends}
-use Rattle.context.specs.Context.{Context, Step, on, ends, _▸_, functionBranchTo, labelRow, poolRow}
+use Rattle.context.specs.declared.Then.the-variants.{Ends}
+use Rattle.context.specs.Context.{Context, Step, ends, _▸_, functionBranchTo, labelRow, poolRow}
 use Rattle.context.specs.Blocks.{arm, callTo, isDestination, isEntryAt, isLongBranchDestination, isIn, isOtherFunction, handleLabel, branch, branches, branched}
-use Rattle.context.specs.State.{World, Holds, Settles, Comes, Does, Puts, Told, same, labelsIn, poolsIn, optionsIn, startsIn, asksCalls, hasPlace, contextOf, machined, putting}
+use Rattle.context.specs.State.{World, Holds, Comes, Does, Puts, Told, same, labelsIn, poolsIn, optionsIn, startsIn, asksCalls, hasPlace, contextOf, machined, putting}
 use Rattle.context.proofs.Laws.{onwards, call-comes, settled, go-on}
 
--- what the code is told of the calls settles the test: where it is not told, the next address is not below the last pool
-pub long-branch : (size : ℕ) (isCalled : Bool) (s : State) (l : World) {block returns : Bool} → block ≡ false → returns ≡ true
-    → Told size block returns isCalled s l
-    → both (ltb (s .progress .address + size) (s .progress .«last_pool_address»))
-    (both isCalled (not (isEntryAt (l .given .code) (l .given .options .base) (s .progress .address + size))))
-    ≡ isLongBranchDestination (s .progress .address + size) (contextOf s l)
-unfolding isLongBranchDestination asksCalls
-long-branch size isCalled s l b r told = step (ltb (s .progress .address + size) (s .progress .«last_pool_address»)) refl
-  where
-    step : (below : Bool) → ltb (s .progress .address + size) (s .progress .«last_pool_address») ≡ below
-        → both below (both isCalled (not (isEntryAt (l .given .code) (l .given .options .base) (s .progress .address + size))))
-        ≡ both below (both (isDestination (s .progress .address + size) (contextOf s l .maps .calls)) (not (isEntryAt (l .given .code) (l .given .options .base) (s .progress .address + size))))
-    step true q = rw (told (rw (b, r, q)))
-    step false q = refl
+-- ---- a return
 
-module _ (i : Ins) (s : State) (word : ℕ) (l : World) where
-  -- a tail call, and the end
-  pub tail-call : {end : ℕ} {t : State} {r : Stepped} → t ≡ putting (Call word (i .target) arm) s → r ≡ record { then = Ends end; state = t }
-      → Holds (s .counts) l
-      → Comes (hasPlace (s .progress .address) l) (s .progress .address) (s .call) r l (callTo i word arm (contextOf s l) ▸ ends end)
-  tail-call {end} {t} te re h =
-      go-on (ends end) refl (call-comes i s word arm l (ap onwards te) h)
-      (settled (rw re (record { stays = refl; call = refl; holds = rw te h; says = refl })))
+-- what the code is told of the calls settles the test: where it is not told, the next address is not below the last pool
+module _ (size : ℕ) (isCalled : Bool) (s : State) (l : World) where
+  abbrev end : ℕ
+  end = s .progress .address + size
+
+  abbrev isEntry : Bool
+  isEntry = isEntryAt (l .given .code) (l .given .options .base) end
+
+  pub long-branch : {block returns : Bool} → block ≡ false → returns ≡ true → Told size block returns isCalled s l
+      → both (ltb end (s .progress .«last_pool_address»)) (both isCalled (not isEntry)) ≡ isLongBranchDestination end (contextOf s l)
+  unfolding isLongBranchDestination asksCalls
+  long-branch b r told = step (ltb end (s .progress .«last_pool_address»)) refl
+    where
+      step : (below : Bool) → ltb end (s .progress .«last_pool_address») ≡ below
+          → both below (both isCalled (not isEntry)) ≡ both below (both (isDestination end (contextOf s l .maps .calls)) (not isEntry))
+      step true q = rw (told (rw (b, r, q)))
+      step false q = refl
+
+-- a tail call, and the end
+pub tail-call : (i : Ins) (s : State) (word : ℕ) (l : World) {end : ℕ} {t : State} {r : Stepped}
+    → t ≡ putting (Call word (i .target) arm) s → r ≡ record { then = Ends end; state = t } → Holds (s .counts) l
+    → Comes (hasPlace (s .progress .address) l) (s .progress .address) (s .call) r l (callTo i word arm (contextOf s l) ▸ ends end)
+tail-call i s word l {end} te re h =
+    go-on (ends end) refl (call-comes i s word arm l (ap onwards te) h)
+    (settled (rw re (record { stays = refl; call = refl; holds = rw te h; says = refl })))
 
 -- ---- where a branch goes
 
@@ -56,19 +60,21 @@ chosen true true f label end call = refl
 chosen true false f label end call = refl
 chosen false o f label end call = refl
 
-module _ (i : Ins) (word size : ℕ) (block : Bool) (c : Context) where
-  abbrev inModule : Bool
-  inModule = isIn (c .given .options .«module_start») (c .given .options .«module_end») (i .target)
+abbrev isLast : Ins → Bool → Bool
+isLast i block = both (not (isConditional (i .cond))) (not block)
 
-  abbrev isLast : Bool
-  isLast = both (not (isConditional (i .cond))) (not block)
+module _ (i : Ins) (word size : ℕ) (block label last : Bool) where
+  -- where it goes by the code's tests
+  abbrev goesBy : Context → Step
+  goesBy c = pick label (handleLabel i size block c) (pick last (ends (c .progress .address + size) c) (callTo i word arm c))
 
-  to : (label last : Bool) → both inModule (not (isOtherFunction i c)) ≡ label → both inModule isLast ≡ last
-      → branches i word size block c ≡ pick label (handleLabel i size block c) (pick last (ends (c .progress .address + size) c) (callTo i word arm c))
+  goes-by : (c : Context) {inModule : Bool} → inModule ≡ isIn (c .given .options .«module_start») (c .given .options .«module_end») (i .target)
+      → label ≡ both inModule (not (isOtherFunction i c)) → last ≡ both inModule (isLast i block) → branches i word size block c ≡ goesBy c
   unfolding branches
-  to label last e f =
-      chosen inModule (isOtherFunction i c) isLast (handleLabel i size block c) (ends (c .progress .address + size) c) (callTo i word arm c)
-      ∙ rw (e, f)
+  goes-by c {inModule} m e f =
+      rw (← m)
+      (chosen inModule (isOtherFunction i c) (isLast i block) (handleLabel i size block c) (ends (c .progress .address + size) c) (callTo i word arm c)
+      ∙ rw (← e, ← f))
 
 -- ---- branch, with the machine's next state in t
 
@@ -87,33 +93,31 @@ module _ (o : Options) (i : Ins) (s : State) (word size : ℕ) (block : Bool) (s
   unfolding branch branched
   branch-not q re = λ l h. settled (rw (re, te, q) (record { stays = refl; call = refl; holds = h; says = refl }))
 
-  abbrev at : World → Context
-  at l = contextOf t (world labels l)
-
   abbrev isLabel : Bool → Bool
-  isLabel inModule = both inModule (not (either (isFunctionBranch (t .machines .«function_branch»)) (stands-in (mapIn 1 (length starts) starts) (i .target))))
+  isLabel inModule =
+      both inModule (not (either (isFunctionBranch (t .machines .«function_branch»)) (stands-in (mapIn 1 (length starts) starts) (i .target))))
 
-  module _ {r : Stepped} {inModule : Bool} (q : isBranch i ≡ true) (me : inModule ≡ isIn (o .«module_start») (o .«module_end») (i .target)) where
-    by : (f : Context → Step) {after : List ℕ} (label last : Bool) → isLabel inModule ≡ label → both inModule (both (not (isConditional (i .cond))) (not block)) ≡ last
-        → ((c : Context) → pick label (handleLabel i size block c) (pick last (ends (c .progress .address + size) c) (callTo i word arm c)) ≡ f c)
-        → Puts (world labels) (world after) f t r → Puts (world labels) (world after) (branch i word size block) s r
-    unfolding branch branched isOtherFunction
-    by f label last e g w d = λ l h.
-        let b : branches i word size block (at l) ≡ f (at l) = to i word size block (at l) label last (rw (← me) e) (rw (← me) g) ∙ w (at l) in
-        rw (q, rw te at b) (rw te at (d l (rw te h)))
-
-    pub branch-label : {after : List ℕ} → isLabel inModule ≡ true
-        → Does (λ l. labelsIn labels (poolsIn pools l)) (λ l. labelsIn after (poolsIn pools l)) (handleLabel i size block) t r
+  module _ {r : Stepped} {inModule : Bool} (q : isBranch i ≡ true) (m : inModule ≡ isIn (o .«module_start») (o .«module_end») (i .target)) where
+    by : {after : List ℕ} {label last : Bool} → label ≡ isLabel inModule → last ≡ both inModule (isLast i block)
+        → Puts (world labels) (world after) (goesBy i word size block label last) t r
         → Puts (world labels) (world after) (branch i word size block) s r
-    branch-label e d = by (handleLabel i size block) true _ e refl (λ c. refl) (λ l h. settled (d (startsIn starts (optionsIn o l)) h))
+    unfolding branch branched isOtherFunction
+    by {label = label} {last} e f d = λ l h.
+        rw (q, rw te at (goes-by i word size block label last (contextOf t (world labels l)) m e f)) (rw te at (d l (rw te h)))
 
-    module _ {conditional : Bool} (ce : conditional ≡ isConditional (i .cond)) (e : isLabel inModule ≡ false) where
-      pub branch-end : both inModule (both (not conditional) (not block)) ≡ true → r ≡ record { then = Ends (s .progress .address + size); state = t }
-          → Puts (world labels) (world labels) (branch i word size block) s r
-      branch-end g re =
-          by (λ c. ends (c .progress .address + size) c) false true e (rw (← ce) g) (λ c. refl)
-          (λ l h. settled (rw (re, te) (record { stays = refl; call = refl; holds = rw te at h; says = refl })))
+    module _ {label : Bool} (e : label ≡ isLabel inModule) where
+      pub branch-label : {after : List ℕ} → label ≡ true
+          → Does (λ l. labelsIn labels (poolsIn pools l)) (λ l. labelsIn after (poolsIn pools l)) (handleLabel i size block) t r
+          → Puts (world labels) (world after) (branch i word size block) s r
+      branch-label y d = by e refl (rw y (λ l h. settled (d (startsIn starts (optionsIn o l)) h)))
 
-      pub branch-call : both inModule (both (not conditional) (not block)) ≡ false → Puts same same (callTo i word arm) t r
-          → Puts (world labels) (world labels) (branch i word size block) s r
-      branch-call g d = by (callTo i word arm) false false e (rw (← ce) g) (λ c. refl) (λ l. d (world labels l))
+      module _ {conditional last : Bool} (n : label ≡ false) (ce : conditional ≡ isConditional (i .cond))
+          (f : last ≡ both inModule (both (not conditional) (not block))) where
+        pub branch-end : last ≡ true → r ≡ record { then = Ends (s .progress .address + size); state = t }
+            → Puts (world labels) (world labels) (branch i word size block) s r
+        branch-end y re =
+            by e (rw ce at f)
+            (rw (n, y) (λ l h. settled (rw (re, te) (record { stays = refl; call = refl; holds = rw te at h; says = refl }))))
+
+        pub branch-call : last ≡ false → Puts same same (callTo i word arm) t r → Puts (world labels) (world labels) (branch i word size block) s r
+        branch-call z d = by e (rw ce at f) (rw (n, z) (λ l. d (world labels l)))

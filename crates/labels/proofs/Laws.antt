@@ -57,7 +57,8 @@ module _ (i : Ins) (block : Bool) where
       step false = refl
 
   -- what the way past pools requires
-  pub at-label : (s : State) (size : ℕ) {t u : State} {x : ℕ} {labels pools : List ℕ} → t ≡ counted (countLabels x (s .counts)) s → u ≡ raisedBy i block t
+  pub at-label : (s : State) (size : ℕ) {t u : State} {x : ℕ} {labels pools : List ℕ}
+      → t ≡ counted (countLabels x (s .counts)) s → u ≡ raisedBy i block t
       → Held labelRow x labels × Held poolRow (s .counts .pools) pools × (s .progress .address + size < 2 ^ 32)
       → Held labelRow (u .counts .labels) labels × Held poolRow (u .counts .pools) pools × (u .progress .address + size < 2 ^ 32)
   at-label s size {t} te ue h = rw (ue, raised-address t, te) h
@@ -74,19 +75,20 @@ module _ (i : Ins) (s : State) (size : ℕ) (block : Bool) (pools : List ℕ) {e
   abbrev to : World → World
   to l = labelsIn after (poolsIn pools l)
 
-  pub label-full : {r : Stepped} → e .full ≡ true → r ≡ record { then = Refuses listFull 0; state = t } → Does from to (handleLabel i size block) s r
+  pub label-full : {r : Stepped} → e .full ≡ true → r ≡ record { then = Refuses listFull 0; state = t }
+      → Does from to (handleLabel i size block) s r
   unfolding handleLabel
   label-full full re = λ l h.
-      rw (re, te)
-      (record { stays = refl; call = refl; holds = labels-held (poolsIn pools l) h (put .held) long; says = sym (rw (entering _ _ (h .labelPlaces) put, full)) })
+      let held = labels-held (poolsIn pools l) h (put .held) long in
+      rw (re, te) (record { stays = refl; call = refl; holds = held; says = sym (rw (entering _ _ (h .labelPlaces) put, full)) })
 
   pub label-in : {u : State} {r : Stepped} → e .full ≡ false → u ≡ raisedBy i block t → Does to to (pastPools i size) u r
       → Does from to (handleLabel i size block) s r
   unfolding handleLabel
   label-in {u} {r} full ue d = λ l h.
       let held = labels-held (poolsIn pools l) h (put .held) long in
-      let w : Settles (s .progress .address) (s .call) (onwards t) (to l) (enterLabel (i .target ∷ []) (contextOf s (from l))) =
-      rw te (record { stays = refl; call = refl; holds = held; says = sym (rw (entering _ _ (h .labelPlaces) put, full)) }) in
+      let w : Settles (s .progress .address) (s .call) (onwards t) (to l) (enterLabel (i .target ∷ []) (contextOf s (from l)))
+      = rw te (record { stays = refl; call = refl; holds = held; says = sym (rw (entering _ _ (h .labelPlaces) put, full)) }) in
       let v = d l (rw (ue, te) held) in
       go-settled (λ c. pastPools i size (labelRaised i block c)) refl w
       (record {

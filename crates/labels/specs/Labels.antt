@@ -1,7 +1,6 @@
 -- `raisesLabel` and `labelRaised` of the definition, on the code's state.
 -- Assumes nothing.
 use mathlib.Core.Bool.{Bool}
-use Prim.Native.Nat.{ℕ}
 use lib.Dec.{ltb}
 use Rattle.arm.specs.declared.Ins.{Ins}
 use Rattle.arm.specs.Ins.{isConditional}

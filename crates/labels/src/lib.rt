@@ -28,11 +28,12 @@ fn past_pools(s: State, size: u32, ins: Ins, labels: &[u32], pools: &[u32]) -> S
     requires { ⌜ Held labelRow (s .counts .labels) (now labels) × Held poolRow (s .counts .pools) (now pools) × (s .progress .address + size < 2 ^ 32) ⌝ }
     ensures { λ r. ⌜ Does (λ l. labelsIn (now (labels .entry)) (poolsIn (now (pools .entry)) l)) (λ l. labelsIn (now (labels .entry)) (poolsIn (now (pools .entry)) l)) (pastPools ins size) s r ⌝ }
 {
+    let pc = s.next;
     let next = s.progress.address + size;
     if !contains(pools, POOL_ROW, s.counts.pools, next) {
         return assign::on(s);
     }
-    match at_or_above(labels, LABEL_ROW, s.counts.labels, s.next) {
+    match at_or_above(labels, LABEL_ROW, s.counts.labels, pc) {
         Found::At(k) => assign::on(assign::goto(
             s,
             field(labels, LABEL_ROW, s.counts.labels, k, 0),

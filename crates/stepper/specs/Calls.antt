@@ -1,5 +1,6 @@
 -- Document 01: begin, step and finish: what each answers, and the walk and the lists that begin and step leave.
 -- Assumes nothing.
+use mathlib.Core.Path.{_≡_}
 use mathlib.Core.Bool.{Bool, true, false}
 use mathlib.Core.List.{List}
 use Prim.Native.Nat.{ℕ}
@@ -16,12 +17,19 @@ use Rattle.walk.specs.declared.Counts.{Counts}
 use Rattle.walk.specs.declared.Options.{Options}
 use Rattle.walk.specs.declared.Walk.{Walk}
 use Rattle.walk.specs.IntoFunction.{begun}
+use Rattle.stepper.specs.declared.Answered.{Answered}
 
 -- what stands after a call
 pub record After : Type 0 where
   pub walk : Walk
   pub lists : Lists
   pub answer : Answer
+
+-- a call gave these
+pub record Called (r : Answered) (lists : Lists) (after : After) : Type 0 where
+  pub walks : r .walk ≡ after .walk
+  pub answers : r .answer ≡ after .answer
+  pub holds : lists ≡ after .lists
 
 abbrev pub isGoing : Answer → Bool
 isGoing Going = true

@@ -1,6 +1,6 @@
 -- `branches::branch` meets its contract.
-use mathlib.Core.Path.{_≡_, refl, sym, ap, _∙_}
-use borrow.Author.Tests.{le-ltb, lt-ltb, le-leb, lt-leb, not-true, not-false}
+use mathlib.Core.Path.{sym, _∙_}
+use borrow.Author.Tests.{not-true, not-false}
 use denote.Ref.{now}
 use Rattle.branches.proofs.BranchLaws.{at-branch, branch-not, branch-label, branch-end, branch-call}
 use borrow.Author.Needs.{needs}
@@ -17,7 +17,11 @@ on-requires : tie.Need-on-requires
 on-requires c κs = search needs
 
 returns : tie.Need-returns
-returns c = branch-not (c .before .before .before .before .before .before .before .args .o) (c .before .before .before .before .before .before .before .args .ins) (c .before .before .before .before .before .before .before .args .s) (c .before .before .before .before .before .before .before .args .word) (c .before .before .before .before .before .before .before .args .size) (c .before .before .before .before .before .before .before .args .block) (now (c .before .before .before .before .before .before .before .args .starts)) (now (c .before .before .before .before .before .before .before .args .labels)) (now (c .before .before .before .before .before .before .before .args .pools)) (c .before .before .before .branched .ensures) (sym (c .before .before .is-branch .ensures) ∙ not-true _ (c .before .if1 .taken)) (c .on .ensures)
+returns c =
+    let start = c .before .before .before .before .before .before .before in
+    branch-not (start .args .o) (start .args .ins) (start .args .s) (start .args .word) (start .args .size) (start .args .block) (now (start .args .starts))
+    (now (start .args .labels)) (now (start .args .pools)) (c .before .before .before .branched .ensures)
+    (sym (c .before .before .is-branch .ensures) ∙ not-true _ (c .before .if1 .taken)) (c .on .ensures)
 
 is-in-requires : tie.Need-is-in-requires
 is-in-requires c κs = search needs
@@ -29,13 +33,20 @@ is-label-requires : tie.Need-is-label-requires
 is-label-requires c κs = search needs
 
 handle-label-requires : tie.Need-handle-label-requires
-handle-label-requires c κs = at-branch (c .before .before .before .before .before .before .before .before .before .before .before .args .s) (c .before .before .before .before .before .before .before .before .before .before .before .args .size) (c .before .before .before .before .before .before .before .branched .ensures) (c .before .before .before .before .before .before .before .before .before .before .before .pre .1, c .before .before .before .before .before .before .before .before .before .before .before .pre .2, c .before .before .before .before .before .before .before .before .before .before .before .pre .3)
+handle-label-requires c κs =
+    let start = c .before .before .before .before .before .before .before .before .before .before .before in
+    at-branch (start .args .s) (start .args .size) (c .before .before .before .before .before .before .before .branched .ensures) (start .pre .1, start .pre .2, start .pre .3)
 
 same-length : tie.Need-same-length
 same-length c = search needs
 
 returns-2 : tie.Need-returns-2
-returns-2 c = branch-label (c .before .before .before .before .before .before .before .before .before .before .before .before .before .before .args .o) (c .before .before .before .before .before .before .before .before .before .before .before .before .before .before .args .ins) (c .before .before .before .before .before .before .before .before .before .before .before .before .before .before .args .s) (c .before .before .before .before .before .before .before .before .before .before .before .before .before .before .args .word) (c .before .before .before .before .before .before .before .before .before .before .before .before .before .before .args .size) (c .before .before .before .before .before .before .before .before .before .before .before .before .before .before .args .block) (now (c .before .before .before .before .before .before .before .before .before .before .before .before .before .before .args .starts)) (now (c .before .before .before .before .before .before .before .before .before .before .before .before .before .before .args .labels)) (now (c .before .before .before .before .before .before .before .before .before .before .before .before .before .before .args .pools)) (c .before .before .before .before .before .before .before .before .before .before .branched .ensures) (sym (c .before .before .before .before .before .before .before .before .before .is-branch .ensures) ∙ not-false _ (c .before .before .before .before .before .before .before .before .if1 .left)) (c .before .before .before .before .before .before .before .is-in .ensures) (sym (c .before .before .before .before .before .is-label .ensures) ∙ c .before .before .before .before .if2 .taken) (c .before .before .handle-label .ensures)
+returns-2 c =
+    let start = c .before .before .before .before .before .before .before .before .before .before .before .before .before .before in
+    branch-label (start .args .o) (start .args .ins) (start .args .s) (start .args .word) (start .args .size) (start .args .block) (now (start .args .starts))
+    (now (start .args .labels)) (now (start .args .pools)) (c .before .before .before .before .before .before .before .before .before .before .branched .ensures)
+    (sym (c .before .before .before .before .before .before .before .before .before .is-branch .ensures) ∙ not-false _ (c .before .before .before .before .before .before .before .before .if1 .left)) (c .before .before .before .before .before .before .before .is-in .ensures) (c .before .before .before .before .before .is-label .ensures)
+    (c .before .before .before .before .if2 .taken) (c .before .before .handle-label .ensures)
 
 is-last-requires : tie.Need-is-last-requires
 is-last-requires c κs = search needs
@@ -47,13 +58,25 @@ end-requires : tie.Need-end-requires
 end-requires c κs = search needs
 
 returns-3 : tie.Need-returns-3
-returns-3 c = branch-end (c .before .before .before .before .before .before .before .before .before .before .before .before .before .before .args .o) (c .before .before .before .before .before .before .before .before .before .before .before .before .before .before .args .ins) (c .before .before .before .before .before .before .before .before .before .before .before .before .before .before .args .s) (c .before .before .before .before .before .before .before .before .before .before .before .before .before .before .args .word) (c .before .before .before .before .before .before .before .before .before .before .before .before .before .before .args .size) (c .before .before .before .before .before .before .before .before .before .before .before .before .before .before .args .block) (now (c .before .before .before .before .before .before .before .before .before .before .before .before .before .before .args .starts)) (now (c .before .before .before .before .before .before .before .before .before .before .before .before .before .before .args .labels)) (now (c .before .before .before .before .before .before .before .before .before .before .before .before .before .before .args .pools)) (c .before .before .before .before .before .before .before .before .before .before .branched .ensures) (sym (c .before .before .before .before .before .before .before .before .before .is-branch .ensures) ∙ not-false _ (c .before .before .before .before .before .before .before .before .if1 .left)) (c .before .before .before .before .before .before .before .is-in .ensures) (c .before .before .before .before .before .before .is-conditional .ensures) (sym (c .before .before .before .before .before .is-label .ensures) ∙ c .before .before .before .before .if2 .left) (sym (c .before .before .before .is-last .ensures) ∙ c .before .before .if3 .taken) (c .end .ensures)
+returns-3 c =
+    let start = c .before .before .before .before .before .before .before .before .before .before .before .before .before .before in
+    branch-end (start .args .o) (start .args .ins) (start .args .s) (start .args .word) (start .args .size) (start .args .block) (now (start .args .starts))
+    (now (start .args .labels)) (now (start .args .pools)) (c .before .before .before .before .before .before .before .before .before .before .branched .ensures)
+    (sym (c .before .before .before .before .before .before .before .before .before .is-branch .ensures) ∙ not-false _ (c .before .before .before .before .before .before .before .before .if1 .left)) (c .before .before .before .before .before .before .before .is-in .ensures) (c .before .before .before .before .before .is-label .ensures)
+    (c .before .before .before .before .if2 .left) (c .before .before .before .before .before .before .is-conditional .ensures) (c .before .before .before .is-last .ensures)
+    (c .before .before .if3 .taken) (c .end .ensures)
 
 call-to-requires : tie.Need-call-to-requires
 call-to-requires c κs = search needs
 
 returns-4 : tie.Need-returns-4
-returns-4 c = branch-call (c .before .before .before .before .before .before .before .before .before .before .before .before .before .args .o) (c .before .before .before .before .before .before .before .before .before .before .before .before .before .args .ins) (c .before .before .before .before .before .before .before .before .before .before .before .before .before .args .s) (c .before .before .before .before .before .before .before .before .before .before .before .before .before .args .word) (c .before .before .before .before .before .before .before .before .before .before .before .before .before .args .size) (c .before .before .before .before .before .before .before .before .before .before .before .before .before .args .block) (now (c .before .before .before .before .before .before .before .before .before .before .before .before .before .args .starts)) (now (c .before .before .before .before .before .before .before .before .before .before .before .before .before .args .labels)) (now (c .before .before .before .before .before .before .before .before .before .before .before .before .before .args .pools)) (c .before .before .before .before .before .before .before .before .before .branched .ensures) (sym (c .before .before .before .before .before .before .before .before .is-branch .ensures) ∙ not-false _ (c .before .before .before .before .before .before .before .if1 .left)) (c .before .before .before .before .before .before .is-in .ensures) (c .before .before .before .before .before .is-conditional .ensures) (sym (c .before .before .before .before .is-label .ensures) ∙ c .before .before .before .if2 .left) (sym (c .before .before .is-last .ensures) ∙ c .before .if3 .left) (c .call-to .ensures)
+returns-4 c =
+    let start = c .before .before .before .before .before .before .before .before .before .before .before .before .before in
+    branch-call (start .args .o) (start .args .ins) (start .args .s) (start .args .word) (start .args .size) (start .args .block) (now (start .args .starts))
+    (now (start .args .labels)) (now (start .args .pools)) (c .before .before .before .before .before .before .before .before .before .branched .ensures)
+    (sym (c .before .before .before .before .before .before .before .before .is-branch .ensures) ∙ not-false _ (c .before .before .before .before .before .before .before .if1 .left)) (c .before .before .before .before .before .before .is-in .ensures) (c .before .before .before .before .is-label .ensures)
+    (c .before .before .before .if2 .left) (c .before .before .before .before .before .is-conditional .ensures) (c .before .before .is-last .ensures)
+    (c .before .if3 .left) (c .call-to .ensures)
 
 pub branch-spec : {M : Type 1} → statement M
 branch-spec =

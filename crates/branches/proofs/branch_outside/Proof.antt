@@ -1,5 +1,5 @@
 -- `branches::branch_outside` meets its contract.
-use mathlib.Core.Path.{_≡_, refl, sym, ap, _∙_}
+use mathlib.Core.Path.{refl}
 use Rattle.context.specs.Blocks.{branchOutside}
 use borrow.Author.Needs.{needs}
 use Rattle.branches.proofs.branch_outside.Statement.{statement}

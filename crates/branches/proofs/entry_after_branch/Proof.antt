@@ -1,5 +1,5 @@
 -- `branches::entry_after_branch` meets its contract.
-use mathlib.Core.Path.{_≡_, refl, sym, ap, _∙_}
+use mathlib.Core.Path.{refl}
 use Rattle.context.specs.Blocks.{entryAfterBranch}
 use borrow.Author.Needs.{needs}
 use Rattle.branches.proofs.entry_after_branch.Statement.{statement}

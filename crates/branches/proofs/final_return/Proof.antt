@@ -1,6 +1,6 @@
 -- `branches::final_return` meets its contract.
-use mathlib.Core.Path.{_≡_, refl, sym, ap, _∙_}
-use borrow.Author.Tests.{le-ltb, lt-ltb, le-leb, lt-leb, not-true, not-false}
+use mathlib.Core.Path.{refl}
+use borrow.Author.Tests.{not-true, not-false}
 use denote.Ref.{now}
 use Rattle.context.specs.Blocks.{finalReturn, isTailCall}
 use Rattle.context.specs.State.{codeIn, optionsIn}
@@ -38,7 +38,13 @@ on-requires-3 c κs = search needs
 
 returns-3 : tie.Need-returns-3
 unfolding finalReturn
-returns-3 c = λ l told h. rw (c .on3 .ensures, c .before .raise .ensures, ← long-branch (c .before .before .before .before .before .before .before .before .args .size) (c .before .before .before .before .before .before .before .before .args .is-called-next) (c .before .before .before .before .before .before .before .before .args .s) (codeIn (now (c .before .before .before .before .before .before .before .before .args .code)) (optionsIn (c .before .before .before .before .before .before .before .before .args .o) l)) (c .before .before .before .before .before .before .if1 .left) (not-false (c .before .before .before .before .before .before .before .before .args .returns) (c .before .before .before .before .before .if2 .left)) told, ← c .before .before .before .is-long-branch .ensures, c .before .before .if3 .taken, c .before .before .before .before .before .before .if1 .left, not-false (c .before .before .before .before .before .before .before .before .args .returns) (c .before .before .before .before .before .if2 .left)) (settled (record { stays = refl; call = refl; holds = h; says = refl }))
+returns-3 c =
+    let start = c .before .before .before .before .before .before .before .before in
+    λ l told h.
+    let world = codeIn (now (start .args .code)) (optionsIn (start .args .o) l) in
+    let long = long-branch (start .args .size) (start .args .is-called-next) (start .args .s) world (c .before .before .before .before .before .before .if1 .left) (not-false (start .args .returns) (c .before .before .before .before .before .if2 .left)) told in
+    rw (c .on3 .ensures, c .before .raise .ensures, ← long, ← c .before .before .before .is-long-branch .ensures, c .before .before .if3 .taken, c .before .before .before .before .before .before .if1 .left, not-false (start .args .returns) (c .before .before .before .before .before .if2 .left))
+    (settled (record { stays = refl; call = refl; holds = h; says = refl }))
 
 is-tail-call-requires : tie.Need-is-tail-call-requires
 is-tail-call-requires c κs = search needs
@@ -51,14 +57,26 @@ end-requires c κs = search needs
 
 returns-4 : tie.Need-returns-4
 unfolding finalReturn isTailCall
-returns-4 c = λ l told h. rw (← long-branch (c .before .before .before .before .before .before .before .before .before .before .args .size) (c .before .before .before .before .before .before .before .before .before .before .args .is-called-next) (c .before .before .before .before .before .before .before .before .before .before .args .s) (codeIn (now (c .before .before .before .before .before .before .before .before .before .before .args .code)) (optionsIn (c .before .before .before .before .before .before .before .before .before .before .args .o) l)) (c .before .before .before .before .before .before .before .before .if1 .left) (not-false (c .before .before .before .before .before .before .before .before .before .before .args .returns) (c .before .before .before .before .before .before .before .if2 .left)) told, ← c .before .before .before .before .before .is-long-branch .ensures, c .before .before .before .before .if3 .left, c .before .before .before .before .before .before .before .before .if1 .left, not-false (c .before .before .before .before .before .before .before .before .before .before .args .returns) (c .before .before .before .before .before .before .before .if2 .left), ← c .before .before .before .is-tail-call .ensures, c .before .before .if4 .taken) (tail-call (c .before .before .before .before .before .before .before .before .before .before .args .ins) (c .before .before .before .before .before .before .before .before .before .before .args .s) (c .before .before .before .before .before .before .before .before .before .before .args .word) (codeIn (now (c .before .before .before .before .before .before .before .before .before .before .args .code)) (optionsIn (c .before .before .before .before .before .before .before .before .before .before .args .o) l)) (c .before .with-call .ensures) (c .end .ensures) h)
+returns-4 c =
+    let start = c .before .before .before .before .before .before .before .before .before .before in
+    λ l told h.
+    let world = codeIn (now (start .args .code)) (optionsIn (start .args .o) l) in
+    let long = long-branch (start .args .size) (start .args .is-called-next) (start .args .s) world (c .before .before .before .before .before .before .before .before .if1 .left) (not-false (start .args .returns) (c .before .before .before .before .before .before .before .if2 .left)) told in
+    rw (← long, ← c .before .before .before .before .before .is-long-branch .ensures, c .before .before .before .before .if3 .left, c .before .before .before .before .before .before .before .before .if1 .left, not-false (start .args .returns) (c .before .before .before .before .before .before .before .if2 .left), ← c .before .before .before .is-tail-call .ensures, c .before .before .if4 .taken)
+    (tail-call (start .args .ins) (start .args .s) (start .args .word) world (c .before .with-call .ensures) (c .end .ensures) h)
 
 end-requires-2 : tie.Need-end-requires-2
 end-requires-2 c κs = search needs
 
 returns-5 : tie.Need-returns-5
 unfolding finalReturn isTailCall
-returns-5 c = λ l told h. rw (c .end2 .ensures, ← long-branch (c .before .before .before .before .before .before .before .before .before .args .size) (c .before .before .before .before .before .before .before .before .before .args .is-called-next) (c .before .before .before .before .before .before .before .before .before .args .s) (codeIn (now (c .before .before .before .before .before .before .before .before .before .args .code)) (optionsIn (c .before .before .before .before .before .before .before .before .before .args .o) l)) (c .before .before .before .before .before .before .before .if1 .left) (not-false (c .before .before .before .before .before .before .before .before .before .args .returns) (c .before .before .before .before .before .before .if2 .left)) told, ← c .before .before .before .before .is-long-branch .ensures, c .before .before .before .if3 .left, c .before .before .before .before .before .before .before .if1 .left, not-false (c .before .before .before .before .before .before .before .before .before .args .returns) (c .before .before .before .before .before .before .if2 .left), ← c .before .before .is-tail-call .ensures, c .before .if4 .left) (settled (record { stays = refl; call = refl; holds = h; says = refl }))
+returns-5 c =
+    let start = c .before .before .before .before .before .before .before .before .before in
+    λ l told h.
+    let world = codeIn (now (start .args .code)) (optionsIn (start .args .o) l) in
+    let long = long-branch (start .args .size) (start .args .is-called-next) (start .args .s) world (c .before .before .before .before .before .before .before .if1 .left) (not-false (start .args .returns) (c .before .before .before .before .before .before .if2 .left)) told in
+    rw (c .end2 .ensures, ← long, ← c .before .before .before .before .is-long-branch .ensures, c .before .before .before .if3 .left, c .before .before .before .before .before .before .before .if1 .left, not-false (start .args .returns) (c .before .before .before .before .before .before .if2 .left), ← c .before .before .is-tail-call .ensures, c .before .if4 .left)
+    (settled (record { stays = refl; call = refl; holds = h; says = refl }))
 
 pub final-return-spec : {M : Type 1} → statement M
 final-return-spec =

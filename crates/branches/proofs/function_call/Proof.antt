@@ -1,5 +1,5 @@
 -- `branches::function_call` meets its contract.
-use mathlib.Core.Path.{_≡_, refl, sym, ap, _∙_}
+use mathlib.Core.Path.{refl}
 use Rattle.context.specs.Blocks.{functionCall}
 use Rattle.context.proofs.Laws.{settled}
 use borrow.Author.Needs.{needs}

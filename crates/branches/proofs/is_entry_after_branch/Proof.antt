@@ -1,6 +1,6 @@
 -- `branches::is_entry_after_branch` meets its contract.
-use mathlib.Core.Path.{_≡_, refl, sym, ap, _∙_}
-use borrow.Author.Tests.{le-ltb, lt-ltb, le-leb, lt-leb, not-true, not-false}
+use mathlib.Core.Path.{sym, _∙_}
+use borrow.Author.Tests.{le-ltb, lt-ltb, not-true, not-false}
 use borrow.Author.Needs.{needs}
 use Rattle.branches.proofs.is_entry_after_branch.Statement.{statement}
 use Rattle.branches.proofs.is_entry_after_branch.Tie as tie

@@ -1,5 +1,4 @@
 -- `branches::is_entry_at` meets its contract.
-use mathlib.Core.Path.{_≡_, refl, sym, ap, _∙_}
 use Rattle.context.specs.Blocks.{isEntryAt}
 use borrow.Author.Needs.{needs}
 use Rattle.branches.proofs.is_entry_at.Statement.{statement}

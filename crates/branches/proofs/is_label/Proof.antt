@@ -1,5 +1,5 @@
 -- `branches::is_label` meets its contract.
-use borrow.Author.Tests.{le-ltb, lt-ltb, le-leb, lt-leb, not-true, not-false}
+use borrow.Author.Tests.{not-true, not-false}
 use borrow.Author.Needs.{needs}
 use Rattle.branches.proofs.is_label.Statement.{statement}
 use Rattle.branches.proofs.is_label.Tie as tie

@@ -1,5 +1,5 @@
 -- `branches::is_last` meets its contract.
-use borrow.Author.Tests.{le-ltb, lt-ltb, le-leb, lt-leb, not-true, not-false}
+use borrow.Author.Tests.{not-true, not-false}
 use Rattle.branches.proofs.is_last.Statement.{statement}
 use Rattle.branches.proofs.is_last.Tie as tie
 

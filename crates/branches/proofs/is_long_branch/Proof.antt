@@ -1,5 +1,5 @@
 -- `branches::is_long_branch` meets its contract.
-use borrow.Author.Tests.{le-ltb, lt-ltb, le-leb, lt-leb, not-true, not-false}
+use borrow.Author.Tests.{le-ltb, lt-ltb}
 use borrow.Author.Needs.{needs}
 use Rattle.branches.proofs.is_long_branch.Statement.{statement}
 use Rattle.branches.proofs.is_long_branch.Tie as tie

@@ -1,5 +1,4 @@
 -- `labels::handle_label` meets its contract.
-use mathlib.Core.Path.{_≡_, refl, sym, ap, _∙_}
 use denote.Ref.{now}
 use Rattle.labels.proofs.Laws.{label-full, label-in, at-label}
 use borrow.Author.Needs.{needs}
@@ -19,19 +18,32 @@ same-length : tie.Need-same-length
 same-length c = search needs
 
 returns : tie.Need-returns
-returns c = label-full (c .before .before .before .before .before .before .before .before .before .args .ins) (c .before .before .before .before .before .before .before .before .before .args .s) (c .before .before .before .before .before .before .before .before .before .args .size) (c .before .before .before .before .before .before .before .before .before .args .block) (now (c .before .before .before .before .before .before .before .before .before .args .pools)) (c .before .before .before .before .before .enter .ensures) (c .before .before .before .before .before .enter .kept .0) (c .before .before .count-labels .ensures) (c .before .if1 .taken) (c .refuse .ensures)
+returns c =
+    let start = c .before .before .before .before .before .before .before .before .before in
+    let put = c .before .before .before .before .before .enter in
+    label-full (start .args .ins) (start .args .s) (start .args .size) (start .args .block) (now (start .args .pools)) (put .ensures) (put .kept .0)
+    (c .before .before .count-labels .ensures) (c .before .if1 .taken) (c .refuse .ensures)
 
 label-raised-requires : tie.Need-label-raised-requires
 label-raised-requires c κs = search needs
 
 past-pools-requires : tie.Need-past-pools-requires
-past-pools-requires c κs = at-label (c .before .before .before .before .before .before .before .before .before .before .args .ins) (c .before .before .before .before .before .before .before .before .before .before .args .block) (c .before .before .before .before .before .before .before .before .before .before .args .s) (c .before .before .before .before .before .before .before .before .before .before .args .size) (c .before .before .before .count-labels .ensures) (c .before .label-raised .ensures) (c .before .before .before .before .before .before .enter .ensures .held, c .before .before .before .before .before .before .before .before .before .before .pre .1, c .before .before .before .before .before .before .before .before .before .before .pre .2)
+past-pools-requires c κs =
+    let start = c .before .before .before .before .before .before .before .before .before .before in
+    at-label (start .args .ins) (start .args .block) (start .args .s) (start .args .size)
+    (c .before .before .before .count-labels .ensures)
+    (c .before .label-raised .ensures)
+    (c .before .before .before .before .before .before .enter .ensures .held, start .pre .1, start .pre .2)
 
 same-length-2 : tie.Need-same-length-2
 same-length-2 c = search needs
 
 returns-2 : tie.Need-returns-2
-returns-2 c = label-in (c .before .before .before .before .before .before .before .before .before .before .before .args .ins) (c .before .before .before .before .before .before .before .before .before .before .before .args .s) (c .before .before .before .before .before .before .before .before .before .before .before .args .size) (c .before .before .before .before .before .before .before .before .before .before .before .args .block) (now (c .before .before .before .before .before .before .before .before .before .before .before .args .pools)) (c .before .before .before .before .before .before .before .enter .ensures) (c .before .before .before .before .before .before .before .enter .kept .0) (c .before .before .before .before .count-labels .ensures) (c .before .before .before .if1 .left) (c .before .before .label-raised .ensures) (c .past-pools .ensures)
+returns-2 c =
+    let start = c .before .before .before .before .before .before .before .before .before .before .before in
+    let put = c .before .before .before .before .before .before .before .enter in
+    label-in (start .args .ins) (start .args .s) (start .args .size) (start .args .block) (now (start .args .pools)) (put .ensures) (put .kept .0)
+    (c .before .before .before .before .count-labels .ensures) (c .before .before .before .if1 .left) (c .before .before .label-raised .ensures) (c .past-pools .ensures)
 
 pub handle-label-spec : {M : Type 1} → statement M
 handle-label-spec =

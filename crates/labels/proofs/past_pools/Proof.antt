@@ -1,7 +1,6 @@
 -- `labels::past_pools` meets its contract.
-use mathlib.Core.Path.{_≡_, refl, sym, ap, _∙_}
-use borrow.Author.Tests.{le-ltb, lt-ltb, le-leb, lt-leb, not-true, not-false}
-use denote.Ref.{now}
+use mathlib.Core.Path.{refl, sym, _∙_}
+use borrow.Author.Tests.{le-ltb, lt-ltb, not-true, not-false}
 use Rattle.context.specs.Blocks.{pastPools}
 use Rattle.labels.proofs.Laws.{above-within}
 use borrow.Author.Needs.{needs}
@@ -29,7 +28,7 @@ enum-known-k : tie.Need-enum-known-k
 enum-known-k c = search needs
 
 field-requires : tie.Need-field-requires
-field-requires c κs = (c .before .before .before .before .before .before .before .before .before .pre .0, above-within (c .before .before .before .before .before .before .before .before .before .args .s .next) (c .before .before .before .before .before .before .before .before .before .args .s .counts .labels) (now (c .before .before .before .before .before .before .before .before .before .args .labels)) (sym (c .before .before .before .at-or-above .ensures) ∙ c .before .k .given .1), omega arith)
+field-requires c κs = (search needs, above-within _ _ _ (sym (c .before .before .before .at-or-above .ensures) ∙ c .before .k .given .1), omega arith)
 
 goto-requires : tie.Need-goto-requires
 goto-requires c κs = search needs

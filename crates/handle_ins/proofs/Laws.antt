@@ -1,0 +1,239 @@
+-- What the code of handle_ins comes to: the calls that it asks, its blocks, and the call that it puts.
+-- Assumes nothing.
+use mathlib.Core.Path.{_≡_, refl, sym, ap, subst, _∙_}
+use mathlib.Core.Bool.{Bool, true, false, not}
+use mathlib.Core.List.{List, [], _∷_}
+use Prim.Native.Nat.{ℕ, _+_, _≤_, _<_, _^_}
+use native.Mathlib.Numerals.{add-one}
+use borrow.Author.Tests.{eq-eqb, ne-eqb}
+use lib.Dec.{ltb}
+use lib.ListN.{length, getD, drop, drop-of-length-le}
+use lib.Seq.{drop-cons}
+use Rattle.arm.specs.declared.Ins.{Ins}
+use Rattle.base.specs.Choice.{pick}
+use Rattle.base.specs.Refusals.{listFull}
+use Rattle.context.specs.declared.Put.{Put}
+use Rattle.context.specs.declared.Put.the-variants.{Nothing, Call}
+use Rattle.context.specs.declared.State.{State}
+use Rattle.context.specs.declared.Stepped.{Stepped}
+use Rattle.context.specs.declared.Then.{Then}
+use Rattle.context.specs.declared.Then.the-variants.{On, Goes, Ends, Refuses}
+use Rattle.context.specs.Blocks.{isDestination, inConditionalBlock, toReturn, fromReturn, handleInsInner, handleIns, passed}
+use Rattle.context.specs.Context.{Context, Given, Step, callRow, labelRow, poolRow, tableRow, goingTo}
+use Rattle.context.specs.Lists.{Lists, lists, AllHeld, givenBy}
+use Rattle.context.specs.State.{World, Holds, Settles, Comes, Does, PutsIf, Told, asksCalls, contextOf, called, isOn, read, placed, hasPlace}
+use Rattle.context.specs.State.{labelsIn, poolsIn, jumpTablesIn, inlineTablesIn, optionsIn, codeIn, startsIn, passes, passesAs, headed, putting, counted, countCalls}
+use Rattle.context.proofs.Laws.{settled as comes, stop, go-on}
+use Rattle.predicates.specs.Predicates.{isReturn}
+use Rattle.rows.specs.declared.Entered.{Entered}
+use Rattle.rows.specs.Map.{keyOf, mapIn, Held, Entering, fits}
+use Rattle.rows.specs.Rows.{inserted}
+use Rattle.rows.proofs.RowLaws.{inserted-length}
+use Rattle.walk.specs.declared.Counts.{Counts}
+use Rattle.walk.specs.declared.Options.{Options}
+use Rattle.handle_ins.specs.Handles.{contextIn, worldOf, callsOf, Inner, hasRoom, callsAt, Stores, Handles}
+
+-- ---- whether a call goes to an address, from the i-th on
+
+module _ (a : ℕ) (calls : List (List ℕ)) (i : ℕ) (h : i < length calls) where
+  pub goes-there : getD (getD calls i []) 2 0 ≡ a → isDestination a (drop i calls) ≡ true
+  unfolding isDestination
+  goes-there e = rw (drop-cons calls i [] h, eq-eqb (getD (getD calls i []) 2 0) a e)
+
+  pub goes-elsewhere : (getD (getD calls i []) 2 0 ≡ a → ⊥) → isDestination a (drop i calls) ≡ isDestination a (drop (i + 1) calls)
+  unfolding isDestination
+  goes-elsewhere d = rw (drop-cons calls i [] h, ne-eqb (getD (getD calls i []) 2 0) a d, add-one)
+
+pub goes-nowhere : (a : ℕ) (calls : List (List ℕ)) (i : ℕ) → length calls ≤ i → isDestination a (drop i calls) ≡ false
+unfolding isDestination
+goes-nowhere a calls i h = rw (drop-of-length-le calls h)
+
+-- ---- the call of a step in its list
+
+as-long : (a : ℕ) (r : List ℕ) (places : ℕ) (m : List (List ℕ)) → fits callRow places (inserted keyOf (a ∷ r) m) ≡ fits callRow places (inserted keyOf (a ∷ []) m)
+as-long a r places m = rw (inserted-length keyOf (a ∷ r) m, inserted-length keyOf (a ∷ []) m)
+
+unless : {A : Type 0} (full has : Bool) (x y : A) → full ≡ not has → pick full x y ≡ pick has y x
+unless true true x y e = cc
+unless true false x y e = refl
+unless false true x y e = refl
+unless false false x y e = cc
+
+module _ (count : ℕ) (before : List ℕ) (r : Stepped) where
+  pub stores-none : {p : Stepped} {t : State} → r .state .call ≡ Nothing → Held callRow count before → t ≡ counted (countCalls count (r .state .counts)) (r .state)
+      → p ≡ record { then = r .then; state = t } → Stores count before before r p
+  stores-none e h same is = rw (is, same, e) (record { held = h; counts = refl; says = λ q g l. refl; full = λ q. cc })
+
+  pub stores-call : {w d mode : ℕ} {after : List ℕ} {e : Entered} {p : Stepped} {t : State} → r .state .call ≡ Call w d mode
+      → Entering callRow count before (r .state .progress .address ∷ w ∷ d ∷ mode ∷ []) e after
+      → t ≡ putting Nothing (counted (countCalls (e .count) (r .state .counts)) (r .state))
+      → p ≡ record { then = pick (e .full) (Refuses listFull 0) (r .then); state = t } → Stores count before after r p
+  stores-call {w} {d} {mode} {after} {e} call i same is =
+      rw (is, same, call)
+      (record {
+        held = i .held;
+        counts = refl;
+        says = λ q g l. ap (λ (t : Then). read t (contextIn g (counted (countCalls (e .count) (r .state .counts)) (r .state)) (callsAt after l))) (goes (Refuses listFull 0) (r .then) q) ∙ ap (λ (m : List (List ℕ)). read (r .then) (record {
+          given = g;
+          next = r .state .next;
+          progress = r .state .progress;
+          machines = r .state .machines;
+          registers = r .state .registers;
+          maps = record {
+            labels = mapIn labelRow (r .state .counts .labels) (l .labels);
+            pools = mapIn poolRow (r .state .counts .pools) (l .pools);
+            «jump_tables» = mapIn tableRow (r .state .counts .«jump_tables») (l .«jump_tables»);
+            «inline_tables» = mapIn tableRow (r .state .counts .«inline_tables») (l .«inline_tables»);
+            calls = m;
+          };
+        })) (i .leaves ∙ goes (mapIn callRow count before) row q);
+        full = λ q. unless (e .full) (hasRoom (r .state .progress .address) count before) (Refuses listFull 0) (r .then) not-full ∙ rw q;
+      })
+    where
+      row : List (List ℕ)
+      row = inserted keyOf (r .state .progress .address ∷ w ∷ d ∷ mode ∷ []) (mapIn callRow count before)
+
+      not-full : e .full ≡ not (hasRoom (r .state .progress .address) count before)
+      not-full = i .says ∙ ap not (as-long (r .state .progress .address) (w ∷ d ∷ mode ∷ []) (length before) (mapIn callRow count before))
+
+      goes : {A : Type 0} (x y : A) → hasRoom (r .state .progress .address) count before ≡ true → pick (e .full) x y ≡ y
+      goes x y q = unless (e .full) (hasRoom (r .state .progress .address) count before) x y not-full ∙ rw q
+
+-- ---- handle_ins
+
+pub all-holds : (o : Options) (code starts : List ℕ) (calls : List (List ℕ)) {n : Counts} {l : Lists} → AllHeld n l
+    → Holds n (worldOf (givenBy o code starts l) calls l)
+all-holds o code starts calls h = record {
+  labels = h .labels;
+  pools = h .pools;
+  «jump_tables» = h .«jump_tables»;
+  «inline_tables» = h .«inline_tables»;
+  labelPlaces = refl;
+  poolPlaces = refl;
+  jumpTablePlaces = refl;
+  inlineTablePlaces = refl;
+}
+
+-- up to in_conditional_block, and from there on
+module _ (o : Options) (code starts : List ℕ) (i : Ins) (word size : ℕ) (s : State) (before : Lists) where
+  pub inner-first : {pools jumps : List ℕ} {r : Stepped} → AllHeld (s .counts) before
+      → Does (λ l. poolsIn (before .pools) (jumpTablesIn (before .«jump_tables») (inlineTablesIn (before .«inline_tables») l)))
+      (λ l. poolsIn pools (jumpTablesIn jumps (inlineTablesIn (before .«inline_tables») l)))
+      (toReturn i)
+      s
+      r
+      → Settles (s .progress .address) (s .call) r
+      (worldOf (givenBy o code starts before) (callsOf s before) (lists (before .labels) pools jumps (before .«inline_tables») (before .calls)))
+      (toReturn i (contextOf s (worldOf (givenBy o code starts before) (callsOf s before) before)))
+  inner-first held does = does (worldOf (givenBy o code starts before) (callsOf s before) before) (all-holds o code starts (callsOf s before) held)
+
+  module _ {pools jumps : List ℕ} {r : Stepped}
+      (w : Settles (s .progress .address) (s .call) r
+      (worldOf (givenBy o code starts before) (callsOf s before) (lists (before .labels) pools jumps (before .«inline_tables») (before .calls)))
+      (toReturn i (contextOf s (worldOf (givenBy o code starts before) (callsOf s before) before)))) where
+    pub inner-stops : isOn (r .then) ≡ false
+        → Inner (givenBy o code starts before) i word size s before (lists (before .labels) pools jumps (before .«inline_tables») (before .calls)) r
+    unfolding handleInsInner
+    inner-stops e =
+        stop (λ c. fromReturn i word size (inConditionalBlock c) (isReturn (c .progress .address) i (c .progress .previous)) c) e (comes w)
+
+    pub inner-goes : {labels' pools' inlines' : List ℕ} {u : Stepped} {block returns isCalled : Bool} → s .call ≡ Nothing → isOn (r .then) ≡ true
+        → block ≡ ltb (r .state .progress .address) (r .state .progress .«last_conditional_destination»)
+        → returns ≡ isReturn (r .state .progress .address) i (r .state .progress .previous)
+        → (asksCalls size block returns (r .state .progress) ≡ true → isCalled ≡ isDestination (r .state .progress .address + size) (callsOf s before))
+        → PutsIf (Told size block returns isCalled (r .state))
+        (λ l. codeIn code (startsIn starts (optionsIn o (labelsIn (before .labels) (poolsIn pools (inlineTablesIn (before .«inline_tables») l))))))
+        (λ l. codeIn code (startsIn starts (optionsIn o (labelsIn labels' (poolsIn pools' (inlineTablesIn inlines' l))))))
+        (fromReturn i word size block returns)
+        (r .state)
+        u
+        → Inner (givenBy o code starts before) i word size s before (lists labels' pools' jumps inlines' (before .calls)) u
+    unfolding handleInsInner inConditionalBlock
+    inner-goes {labels'} {pools'} {inlines'} {u} {block} {returns} {isCalled} none is-on is-block is-returning tells puts =
+        subst
+        (λ (a : ℕ). Comes (hasPlace a (worldOf (givenBy o code starts before) (callsOf s before) before)) (s .progress .address) (s .call) u
+        (worldOf (givenBy o code starts before) (callsOf s before) (lists labels' pools' jumps inlines' (before .calls)))
+        (handleInsInner i word size (contextOf s (worldOf (givenBy o code starts before) (callsOf s before) before))))
+        (w .stays)
+        (go-on (λ c. fromReturn i word size (inConditionalBlock c) (isReturn (c .progress .address) i (c .progress .previous)) c) is-on (comes w)
+        (rw (is-block, is-returning) at (puts mid told (w .holds))))
+      where
+        mid : World
+        mid = worldOf (givenBy o code starts before) (callsOf s before) (lists (before .labels) pools jumps (before .«inline_tables») (before .calls))
+
+        told : asksCalls size block returns (r .state .progress) ≡ true
+            → isCalled ≡ isDestination (r .state .progress .address + size) (contextOf (r .state) mid .maps .calls)
+        told e =
+            tells e
+            ∙ sym (ap (λ (k : Put). isDestination (r .state .progress .address + size) (called k (r .state .progress .address) (callsOf s before))) (w .call ∙ none))
+
+pub below : (size : ℕ) {x a : ℕ} → x ≡ a → a + size < 2 ^ 32 → x + size < 2 ^ 32
+below size e h = rw e h
+
+-- the blocks' step with its call in its list
+module _ (o : Options) (code starts : List ℕ) (before mid : Lists) (after : List ℕ) where
+  pub handles-stored : {r p : Stepped} {a n : ℕ} {k : Put} {step : Step} → k ≡ Nothing
+      → Comes (hasPlace a (worldOf (givenBy o code starts before) (mapIn callRow n (before .calls)) before)) a k r (worldOf (givenBy o code starts before) (mapIn callRow n (before .calls)) mid) step
+      → Stores n (before .calls) after r p → length after ≡ length (before .calls)
+      → Handles (givenBy o code starts before) p before (callsAt after mid) step
+  handles-stored {r} {p} {a} {n} {k} {step} none w s long = record {
+    held = record {
+      labels = rw (ap (λ (n : Counts). n .labels) (s .counts)) (w .holds .labels);
+      pools = rw (ap (λ (n : Counts). n .pools) (s .counts)) (w .holds .pools);
+      «jump_tables» = rw (ap (λ (n : Counts). n .«jump_tables») (s .counts)) (w .holds .«jump_tables»);
+      «inline_tables» = rw (ap (λ (n : Counts). n .«inline_tables») (s .counts)) (w .holds .«inline_tables»);
+      calls = s .held;
+    };
+    places = rw (w .holds .labelPlaces, w .holds .poolPlaces, w .holds .jumpTablePlaces, w .holds .inlineTablePlaces, long);
+    says = says (placed (hasRoom a n (before .calls)) (r .state .call)) refl;
+  }
+    where
+      at : {b : Bool} → placed (hasRoom a n (before .calls)) (r .state .call) ≡ b
+          → placed (hasRoom (r .state .progress .address) n (before .calls)) (r .state .call) ≡ b
+      at e = ap (λ (x : ℕ). placed (hasRoom x n (before .calls)) (r .state .call)) (w .stays) ∙ e
+
+      says : (b : Bool) → placed (hasRoom a n (before .calls)) (r .state .call) ≡ b
+          → read (p .then) (contextIn (givenBy o code starts before) (p .state) (callsAt after mid)) ≡ step
+      says true e = s .says (at e) (givenBy o code starts before) mid ∙ w .says e
+      says false e =
+          ap (λ (t : Then). read t (contextIn (givenBy o code starts before) (p .state) (callsAt after mid))) (s .full (at e))
+          ∙ sym (w .full e (ap (placed (hasRoom a n (before .calls))) none))
+
+-- and the instruction becomes the previous one
+module _ (i : Ins) (g : Given) (l : Lists) where
+  passes-counts : (t : Then) (s : State) → passesAs t i s .state .counts ≡ s .counts
+  passes-counts On s = refl
+  passes-counts Goes s = refl
+  passes-counts (Ends a) s = refl
+  passes-counts (Refuses n r) s = refl
+
+  passes-read : (t : Then) (s : State) → read (passesAs t i s .then) (contextIn g (passesAs t i s .state) l) ≡ passed i (read t (contextIn g s l))
+  passes-read On s = refl
+  passes-read Goes s = refl
+  passes-read (Ends a) s = refl
+  passes-read (Refuses n r) s = refl
+
+  pub handles-passed : {r p : Stepped} {before : Lists} {step : Step} → Handles g p before l step → r ≡ passes i p → Handles g r before l (passed i step)
+  handles-passed {r} {p} h e = rw e (record {
+    held = rw (passes-counts (p .then) (p .state)) (h .held);
+    places = h .places;
+    says = passes-read (p .then) (p .state) ∙ ap (passed i) (h .says);
+  })
+
+module _ (o : Options) (code starts : List ℕ) (i : Ins) (word size : ℕ) (s : State) (before : Lists) where
+  pub handles-ins : {labels pools jumps inlines after : List ℕ} {r p x : Stepped} → s .call ≡ Nothing
+      → Inner (givenBy o code starts before) i word size (headed (s .progress .address + size) s) before (lists labels pools jumps inlines (before .calls)) r
+      → Stores (s .counts .calls) (before .calls) after r p → length after ≡ length (before .calls) → x ≡ passes i p
+      → Handles (givenBy o code starts before) x before (lists labels pools jumps inlines after)
+      (handleIns i word size (contextIn (givenBy o code starts before) s before))
+  unfolding handleIns
+  handles-ins {labels} {pools} {jumps} {inlines} {after} {r} {p} {x} none w stored long is =
+      subst
+      (λ (c : Context). Handles (givenBy o code starts before) x before (lists labels pools jumps inlines after) (passed i (handleInsInner i word size c)))
+      context
+      (handles-passed i (givenBy o code starts before) (lists labels pools jumps inlines after)
+      (handles-stored o code starts before (lists labels pools jumps inlines (before .calls)) after none w stored long) is)
+    where
+      context : contextOf (headed (s .progress .address + size) s) (worldOf (givenBy o code starts before) (callsOf s before) before)
+          ≡ goingTo (s .progress .address + size) (contextIn (givenBy o code starts before) s before)
+      context = rw none

@@ -1,0 +1,79 @@
+-- What the code of handle_ins promises, over the five lent lists.
+-- Assumes nothing.
+use mathlib.Core.Path.{_≡_}
+use mathlib.Core.Bool.{Bool, true, false}
+use mathlib.Core.List.{List, [], _∷_}
+use Prim.Native.Nat.{ℕ}
+use lib.ListN.{length}
+use Rattle.arm.specs.declared.Ins.{Ins}
+use Rattle.base.specs.Refusals.{listFull}
+use Rattle.context.specs.declared.Put.the-variants.{Nothing}
+use Rattle.context.specs.declared.State.{State}
+use Rattle.context.specs.declared.Stepped.{Stepped}
+use Rattle.context.specs.declared.Then.the-variants.{Refuses}
+use Rattle.context.specs.Blocks.{handleInsInner}
+use Rattle.context.specs.Context.{Context, Given, Step, callRow}
+use Rattle.context.specs.Lists.{Lists, lists, AllHeld, mapsIn, placesOf}
+use Rattle.context.specs.State.{World, Comes, contextOf, read, placed, hasPlace, countCalls}
+use Rattle.rows.specs.Map.{mapIn, Held, keyOf, fits}
+use Rattle.rows.specs.Rows.{inserted}
+
+-- the context of a state, with the maps that the lists hold
+abbrev pub contextIn : Given → State → Lists → Context
+contextIn g s l = record {
+  given = g;
+  next = s .next;
+  progress = s .progress;
+  machines = s .machines;
+  registers = s .registers;
+  maps = mapsIn (s .counts) l;
+}
+
+-- what a step's blocks work on: these are the calls before it
+abbrev pub worldOf : Given → List (List ℕ) → Lists → World
+worldOf g calls l = record {
+  given = g;
+  labels = l .labels;
+  pools = l .pools;
+  «jump_tables» = l .«jump_tables»;
+  «inline_tables» = l .«inline_tables»;
+  calls = calls;
+}
+
+-- no call is to be put before a step
+abbrev pub NoCall : State → Type 0
+NoCall s = s .call ≡ Nothing
+
+abbrev pub callsOf : State → Lists → List (List ℕ)
+callsOf s l = mapIn callRow (s .counts .calls) (l .calls)
+
+-- handle_ins_inner: a call that it puts is not in the list yet
+abbrev pub Inner : Given → Ins → ℕ → ℕ → State → Lists → Lists → Stepped → Type 0
+Inner g i word size s before after r =
+    Comes (hasPlace (s .progress .address) (worldOf g (callsOf s before) before))
+    (s .progress .address)
+    (s .call)
+    r
+    (worldOf g (callsOf s before) after)
+    (handleInsInner i word size (contextOf s (worldOf g (callsOf s before) before)))
+
+-- a call from the address has a place in the list
+abbrev pub hasRoom : ℕ → ℕ → List ℕ → Bool
+hasRoom a count calls = fits callRow (length calls) (inserted keyOf (a ∷ []) (mapIn callRow count calls))
+
+abbrev pub callsAt : List ℕ → Lists → Lists
+callsAt calls l = lists (l .labels) (l .pools) (l .«jump_tables») (l .«inline_tables») calls
+
+-- the call that r puts is in its list, if that has a place, and else p is a refusal
+pub record Stores (count : ℕ) (before after : List ℕ) (r p : Stepped) : Type 0 where
+  pub held : Held callRow (p .state .counts .calls) after
+  pub counts : p .state .counts ≡ countCalls (p .state .counts .calls) (r .state .counts)
+  pub says : placed (hasRoom (r .state .progress .address) count before) (r .state .call) ≡ true → (g : Given) (l : Lists)
+      → read (p .then) (contextIn g (p .state) (callsAt after l)) ≡ read (r .then) (contextOf (r .state) (worldOf g (mapIn callRow count before) l))
+  pub full : placed (hasRoom (r .state .progress .address) count before) (r .state .call) ≡ false → p .then ≡ Refuses listFull 0
+
+-- the code came to a step, with all calls in their list
+pub record Handles (g : Given) (r : Stepped) (before after : Lists) (step : Step) : Type 0 where
+  pub held : AllHeld (r .state .counts) after
+  pub places : placesOf after ≡ placesOf before
+  pub says : read (r .then) (contextIn g (r .state) after) ≡ step

@@ -1,0 +1,170 @@
+// handle_ins over five lists of rows: the blocks of a step, and the call that they put in its list.
+use arm::Ins;
+use base::refusal::LIST_FULL;
+use context::CALL_ROW;
+use context::Put;
+use context::State;
+use context::Stepped;
+use context::asks_calls;
+use context::assign;
+use context::in_conditional_block;
+use context::is_on;
+use context::pass;
+use handling::from_return;
+use handling::to_return;
+use rows::insert::enter;
+use rows::search::field;
+use walk::Options;
+ghost use mathlib.Core.Path.{_≡_};
+ghost use mathlib.Core.Bool.{true};
+ghost use Prim.Native.Nat.{_+_, _<_, _^_};
+ghost use lib.ListN.{length};
+ghost use Rattle.context.specs.Context.{callRow};
+ghost use Rattle.context.specs.Blocks.{isDestination, handleIns};
+ghost use Rattle.context.specs.Lists.{lists, AllHeld, givenBy};
+ghost use Rattle.context.specs.State.{asksCalls};
+ghost use Rattle.rows.specs.Map.{Held, mapIn};
+ghost use Rattle.handle_ins.specs.Handles.{contextIn, NoCall, Inner, Stores, Handles};
+
+// function_calls.values().any(..): one goes to the address.
+fn is_destination(calls: &[u32], count: usize, address: u32) -> bool
+    requires { ⌜ Held callRow count (now calls) ⌝ }
+    ensures { λ r. ⌜ r ≡ isDestination address (mapIn callRow count (now (calls .entry))) ⌝ }
+{
+    let mut i = 0;
+    while i < count {
+        if field(calls, CALL_ROW, count, i, 2) == address {
+            return true;
+        }
+        i += 1;
+    }
+    false
+}
+
+// What a return asks of the calls, where it does.
+fn is_called_next(
+    s: State,
+    size: u32,
+    block: bool,
+    returns: bool,
+    calls: &[u32],
+    count: usize,
+) -> bool
+    requires { ⌜ Held callRow count (now calls) × (s .progress .address + size < 2 ^ 32) ⌝ }
+    ensures { λ r. ⌜ (asksCalls size block returns (s .progress) ≡ true → r ≡ isDestination (s .progress .address + size) (mapIn callRow count (now (calls .entry)))) ⌝ }
+{
+    if asks_calls(s, size, block, returns) {
+        return is_destination(calls, count, s.progress.address + size);
+    }
+    false
+}
+
+// The blocks of a step. The call that they put comes back in the state.
+fn handle_ins_inner(
+    o: Options,
+    s: State,
+    word: u32,
+    size: u32,
+    ins: Ins,
+    code: &[u8],
+    starts: &[u32],
+    labels: &mut [u32],
+    pools: &mut [u32],
+    jump_tables: &mut [u32],
+    inline_tables: &mut [u32],
+    calls: &[u32],
+) -> Stepped
+    requires { ⌜ NoCall s × AllHeld (s .counts) (lists (now labels) (now pools) (now «jump_tables») (now «inline_tables») (now calls)) × Held 1 (length (now starts)) (now starts) × (s .progress .address + 4 < 2 ^ 32) × (s .progress .address + size < 2 ^ 32) ⌝ }
+    ensures { λ r. ⌜ Inner (givenBy o (now (code .entry)) (now (starts .entry)) (lists (now (labels .entry)) (now (pools .entry)) (now («jump_tables» .entry)) (now («inline_tables» .entry)) (now (calls .entry)))) ins word size s (lists (now (labels .entry)) (now (pools .entry)) (now («jump_tables» .entry)) (now («inline_tables» .entry)) (now (calls .entry))) (lists (now (labels .exit)) (now (pools .exit)) (now («jump_tables» .exit)) (now («inline_tables» .exit)) (now (calls .entry))) r ⌝ }
+{
+    let n = s.counts;
+    let r = to_return(s, ins, pools, jump_tables, inline_tables);
+    if !is_on(r) {
+        return r;
+    }
+    let t = r.state;
+    let p = t.progress;
+    let block = in_conditional_block(t);
+    let returns = predicates::is_return(p.address, ins, p.previous);
+    let is_called = is_called_next(t, size, block, returns, calls, n.calls);
+    from_return(
+        o,
+        t,
+        word,
+        size,
+        ins,
+        block,
+        returns,
+        is_called,
+        code,
+        starts,
+        labels,
+        pools,
+        inline_tables,
+    )
+}
+
+// The step's call in its list, which had `count` before it.
+fn put_call(r: Stepped, count: usize, calls: &mut [u32]) -> Stepped
+    requires { ⌜ Held callRow count (now calls) ⌝ }
+    ensures { λ p. ⌜ Stores count (now (calls .entry)) (now (calls .exit)) r p ⌝ }
+{
+    let s = r.state;
+    let then = r.then;
+    let call = s.call;
+    match call {
+        Put::Nothing => Stepped {
+            then,
+            state: assign::count_calls(s, count),
+        },
+        Put::Call {
+            word,
+            destination,
+            mode,
+        } => {
+            let p = s.progress;
+            let e = enter(calls, CALL_ROW, count, [p.address, word, destination, mode]);
+            let t = assign::with_call(assign::count_calls(s, e.count), Put::Nothing);
+            if e.full {
+                return assign::refuse(t, LIST_FULL);
+            }
+            Stepped { then, state: t }
+        }
+    }
+}
+
+pub fn handle_ins(
+    o: Options,
+    s: State,
+    word: u32,
+    size: u32,
+    ins: Ins,
+    code: &[u8],
+    starts: &[u32],
+    labels: &mut [u32],
+    pools: &mut [u32],
+    jump_tables: &mut [u32],
+    inline_tables: &mut [u32],
+    calls: &mut [u32],
+) -> Stepped
+    requires { ⌜ NoCall s × AllHeld (s .counts) (lists (now labels) (now pools) (now «jump_tables») (now «inline_tables») (now calls)) × Held 1 (length (now starts)) (now starts) × (s .progress .address + 4 < 2 ^ 32) × (s .progress .address + size < 2 ^ 32) ⌝ }
+    ensures { λ r. ⌜ Handles (givenBy o (now (code .entry)) (now (starts .entry)) (lists (now (labels .entry)) (now (pools .entry)) (now («jump_tables» .entry)) (now («inline_tables» .entry)) (now (calls .entry)))) r (lists (now (labels .entry)) (now (pools .entry)) (now («jump_tables» .entry)) (now («inline_tables» .entry)) (now (calls .entry))) (lists (now (labels .exit)) (now (pools .exit)) (now («jump_tables» .exit)) (now («inline_tables» .exit)) (now (calls .exit))) (handleIns ins word size (contextIn (givenBy o (now (code .entry)) (now (starts .entry)) (lists (now (labels .entry)) (now (pools .entry)) (now («jump_tables» .entry)) (now («inline_tables» .entry)) (now (calls .entry)))) s (lists (now (labels .entry)) (now (pools .entry)) (now («jump_tables» .entry)) (now («inline_tables» .entry)) (now (calls .entry))))) ⌝ }
+{
+    let p = s.progress;
+    let n = s.counts;
+    let r = handle_ins_inner(
+        o,
+        assign::goto(s, p.address + size),
+        word,
+        size,
+        ins,
+        code,
+        starts,
+        labels,
+        pools,
+        jump_tables,
+        inline_tables,
+        calls,
+    );
+    pass(put_call(r, n.calls, calls), ins)
+}

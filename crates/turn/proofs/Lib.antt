@@ -1,0 +1,2 @@
+-- What the proofs of a turn share.
+pub mod Laws
