@@ -20,13 +20,16 @@ const ROUND_NANOSECONDS: f64 = 2e6;
 
 // ---- the library
 
-/// The columns that the library is lent.
-struct Lent([Vec<u32>; 12]);
+/// The numbers in a row of each list: labels, pools, jump tables, inline tables, calls.
+const ROWS: [usize; 5] = [1, 3, 2, 2, 4];
+
+/// The lists that the library is lent.
+struct Lent([Vec<u32>; 5]);
 
 impl Lent {
     /// So many places for labels, pools and calls, and for tables.
     fn new(places: usize, tables: usize) -> Self {
-        Self(array::from_fn(|column| vec![0; if (4..8).contains(&column) { tables } else { places }]))
+        Self(array::from_fn(|list| vec![0; ROWS[list] * if ROWS[list] == 2 { tables } else { places }]))
     }
 
     /// As many places as a walk over this code can fill: one for each word.
@@ -35,14 +38,11 @@ impl Lent {
         Self::new(words, words)
     }
 
-    #[rustfmt::skip]
     fn run(&mut self, request: &Request) -> Result<Function, Refusal> {
         let &Request { base, module_start, module_end, known_end, check, .. } = request;
         let options = Options { base, module_start, module_end, known_end, check };
-        let [labels, pools, pool_values, pool_marks, jump_tables, jump_sizes, inline_tables, inline_sizes, calls, call_words, call_destinations,
-            call_modes] = self.0.each_mut().map(|column| &mut column[..]);
-        let mut lists = Lists { labels, pools, pool_values, pool_marks, jump_tables, jump_sizes, inline_tables, inline_sizes, calls, call_words,
-            call_destinations, call_modes };
+        let [labels, pools, jump_tables, inline_tables, calls] = self.0.each_mut().map(|list| &mut list[..]);
+        let mut lists = Lists { labels, pools, jump_tables, inline_tables, calls };
         cugbejin::run(options, request.start, &request.code, &request.existing_starts, &mut lists)
     }
 
@@ -54,17 +54,15 @@ impl Lent {
         };
         let mut text = format!("function {start:08x} {end:08x} {first_instruction:08x} {last_instruction_end:08x}\n");
         let Counts { labels, pools, jump_tables, inline_tables, calls } = counts;
-        let column = |column: usize, place: usize| self.0[column][place];
-        (0..labels).for_each(|i| writeln!(text, "label {:08x}", column(0, i)).unwrap());
-        for i in 0..pools {
-            let mark = ["other", "call"][column(3, i) as usize];
-            writeln!(text, "pool {:08x} {:08x} {mark}", column(1, i), column(2, i)).unwrap();
+        let rows = |list: usize, count: usize| self.0[list].chunks_exact(ROWS[list]).take(count);
+        rows(0, labels).for_each(|row| writeln!(text, "label {:08x}", row[0]).unwrap());
+        for row in rows(1, pools) {
+            writeln!(text, "pool {:08x} {:08x} {}", row[0], row[1], ["other", "call"][row[2] as usize]).unwrap();
         }
-        (0..jump_tables).for_each(|i| writeln!(text, "jump {:08x} {:08x}", column(4, i), column(5, i)).unwrap());
-        (0..inline_tables).for_each(|i| writeln!(text, "inline {:08x} {:08x}", column(6, i), column(7, i)).unwrap());
-        for i in 0..calls {
-            let mode = ["arm", "thumb"][column(11, i) as usize];
-            writeln!(text, "call {:08x} {:08x} {:08x} {mode}", column(8, i), column(9, i), column(10, i)).unwrap();
+        rows(2, jump_tables).for_each(|row| writeln!(text, "jump {:08x} {:08x}", row[0], row[1]).unwrap());
+        rows(3, inline_tables).for_each(|row| writeln!(text, "inline {:08x} {:08x}", row[0], row[1]).unwrap());
+        for row in rows(4, calls) {
+            writeln!(text, "call {:08x} {:08x} {:08x} {}", row[0], row[1], row[2], ["arm", "thumb"][row[3] as usize]).unwrap();
         }
         text
     }

@@ -3,6 +3,7 @@
 #ifndef CUGBEJIN_H
 #define CUGBEJIN_H
 
+#include <assert.h>
 #include <stddef.h>
 #include <stdint.h>
 
@@ -45,6 +46,52 @@ enum cugbejin_refusal {
     CUGBEJIN_NO_EPILOGUE = 14        /* code ran out before the function ended, or its end is above the module's */
 };
 
+/* The lists that a walk fills: a label is an address, and the others have rows. A list's rows stand one after another, ascending by address,
+ * with zeros after the last. */
+struct cugbejin_pool {
+    uint32_t address, value, mark; /* the word there; 1 for one that is called, else 0 */
+};
+
+struct cugbejin_table {
+    uint32_t address, size; /* in bytes */
+};
+
+struct cugbejin_call {
+    uint32_t address, word, destination, mode; /* the instruction; 0 ARM, 1 Thumb */
+};
+
+/* With how many rows each has room for. A list without room may be NULL. */
+struct cugbejin_lists {
+    uint32_t *labels;
+    size_t label_rows;
+    struct cugbejin_pool *pools;
+    size_t pool_rows;
+    struct cugbejin_table *jump_tables;
+    size_t jump_table_rows;
+    struct cugbejin_table *inline_tables;
+    size_t inline_table_rows;
+    struct cugbejin_call *calls;
+    size_t call_rows;
+};
+
+/* The proved function, which `cugbejin_walk` calls. It takes a list as 32-bit numbers, one row after another, and how many numbers: three for a
+ * pool, two for a table, four for a call. No pointer may be NULL, also where the length is 0. */
+uint32_t cugbejin_run(
+    uint32_t base, uint32_t module_start, uint32_t module_end, uint32_t start,
+    uint32_t known, uint32_t known_end, uint32_t check,
+    const uint8_t *code, size_t code_length,
+    const uint32_t *starts, size_t starts_length,
+    uint32_t *labels, size_t labels_length,
+    uint32_t *pools, size_t pools_length,
+    uint32_t *jump_tables, size_t jump_tables_length,
+    uint32_t *inline_tables, size_t inline_tables_length,
+    uint32_t *calls, size_t calls_length,
+    struct cugbejin_answer *answer);
+
+static_assert(sizeof(struct cugbejin_pool) == 3 * sizeof(uint32_t), "a pool is three numbers");
+static_assert(sizeof(struct cugbejin_table) == 2 * sizeof(uint32_t), "a table is two numbers");
+static_assert(sizeof(struct cugbejin_call) == 4 * sizeof(uint32_t), "a call is four numbers");
+
 /* Walks one ARM function. Returns 0 where it is accepted, else the refusal's number, and fills *answer.
  *
  *   base                      address of the code's first byte
@@ -54,36 +101,29 @@ enum cugbejin_refusal {
  *   check                     0: off; else a use of an undefined register is refused
  *   code                      the bytes; a word has its lowest byte first
  *   starts                    starts of other functions, strictly ascending; only read
+ *   lists                     filled; what they hold before does not matter
  *
- * The other lists are filled, ascending by address, with zeros after the last entry. What they hold before does not matter. Lists in a group are
- * columns of one list: the shortest is its room.
- *
- *   labels                    addresses
- *   pools                     addresses, the words there, and marks: 1 for one that is called, else 0
- *   jump_tables               addresses and sizes in bytes
- *   inline_tables             addresses and sizes in bytes
- *   calls                     addresses, instruction words, destinations, and modes: 0 ARM, 1 Thumb
- *
- * A length counts elements. No pointer may be NULL, also where the length is 0: an empty list is any aligned address, as that of a variable, and 0.
- * The twelve filled lists and the answer must not overlap one another, nor code or starts. Nothing is kept after the call. */
-uint32_t cugbejin_run(
+ * A length counts elements. An empty code, starts or list may be NULL. The lists and the answer must not overlap one another, nor code or starts.
+ * Nothing is kept after the call. */
+static inline uint32_t cugbejin_walk(
     uint32_t base, uint32_t module_start, uint32_t module_end, uint32_t start,
     uint32_t known, uint32_t known_end, uint32_t check,
     const uint8_t *code, size_t code_length,
     const uint32_t *starts, size_t starts_length,
-    uint32_t *labels, size_t labels_length,
-    uint32_t *pools, size_t pools_length,
-    uint32_t *pool_values, size_t pool_values_length,
-    uint32_t *pool_marks, size_t pool_marks_length,
-    uint32_t *jump_tables, size_t jump_tables_length,
-    uint32_t *jump_sizes, size_t jump_sizes_length,
-    uint32_t *inline_tables, size_t inline_tables_length,
-    uint32_t *inline_sizes, size_t inline_sizes_length,
-    uint32_t *calls, size_t calls_length,
-    uint32_t *call_words, size_t call_words_length,
-    uint32_t *call_destinations, size_t call_destinations_length,
-    uint32_t *call_modes, size_t call_modes_length,
-    struct cugbejin_answer *answer);
+    const struct cugbejin_lists *lists, struct cugbejin_answer *answer)
+{
+    uint32_t empty = 0; /* where a list without room may point */
+    return cugbejin_run(
+        base, module_start, module_end, start, known, known_end, check,
+        code ? code : (const uint8_t *)&empty, code_length,
+        starts ? starts : &empty, starts_length,
+        lists->labels ? lists->labels : &empty, lists->label_rows,
+        lists->pools ? (uint32_t *)lists->pools : &empty, 3 * lists->pool_rows,
+        lists->jump_tables ? (uint32_t *)lists->jump_tables : &empty, 2 * lists->jump_table_rows,
+        lists->inline_tables ? (uint32_t *)lists->inline_tables : &empty, 2 * lists->inline_table_rows,
+        lists->calls ? (uint32_t *)lists->calls : &empty, 4 * lists->call_rows,
+        answer);
+}
 
 #ifdef __cplusplus
 }

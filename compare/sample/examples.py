@@ -14,14 +14,14 @@ from walk import (
     ADD, AL, BASE, EQ, HIGH, LOW, NOP, RETURN, TOP, Request, b, data, mov, pool, shifted, sub_pc, table_load,
 )
 
-# The parts of a state and the columns of the lists, as a request numbers them.
+# The parts of a state and the lists, as a request numbers them; the numbers in a row of each list.
 ADDRESS, LAST_POOL, START = 1, 2, 3
 LABELS, POOLS, JUMPS, INLINES, CALLS = 4, 5, 6, 7, 8
 SOURCE = 9
-(AT_LABELS, AT_POOLS, AT_VALUES, AT_MARKS, AT_JUMPS, AT_JUMP_SIZES, AT_INLINES, AT_INLINE_SIZES, AT_CALLS, AT_WORDS, AT_DESTINATIONS,
- AT_MODES) = range(1, 13)
+IN_LABELS, IN_POOLS, IN_JUMPS, IN_INLINES, IN_CALLS = range(1, 6)
+ROWS = {IN_LABELS: 1, IN_POOLS: 3, IN_JUMPS: 2, IN_INLINES: 2, IN_CALLS: 4}
 
-# The lists' places: labels, pools, jump tables, inline tables, calls.
+# The lists' places, in rows: labels, pools, jump tables, inline tables, calls.
 ALL = (1024, 1024, 64, 64, 1024)
 ONE = (1, 1, 1, 1, 1)
 
@@ -32,7 +32,7 @@ C9 = [0xE59FC000, 0xE12FFF1C, 0x00000000]
 
 
 def turn(*parts, places=(), finish=False):
-    """What comes before a step: at most two parts of the state and two places get a value."""
+    """What comes before a step: at most two parts of the state and two places of a list get a value."""
     numbers = [int(finish)]
     for part in range(2):
         numbers += parts[part] if part < len(parts) else (0, 0)
@@ -46,15 +46,17 @@ FINISH = turn(finish=True)
 
 
 class Example:
-    def __init__(self, name, words, text, made='hand', places=ALL, turns=(), starts=(), **options):
+    """`more` numbers are lent of each list behind its places."""
+
+    def __init__(self, name, words, text, made='hand', places=ALL, more=0, turns=(), starts=(), **options):
         self.name, self.text, self.made = name, text, made
         self.plain = Request(words, **options)
-        self.places, self.turns, self.starts = places, turns, starts
+        self.places, self.more, self.turns, self.starts = places, more, turns, starts
 
     def pack(self):
         body = b'\3' + struct.pack('>5IB', *self.plain.numbers, self.plain.check)
         body += struct.pack(f'>{len(self.starts) + 1}I', len(self.starts), *self.starts)
-        body += struct.pack('>6I', *self.places, len(self.turns)) + b''.join(self.turns) + self.plain.code
+        body += struct.pack('>7I', *self.places, self.more, len(self.turns)) + b''.join(self.turns) + self.plain.code
         return struct.pack('>I', len(body)) + body
 
     def expected(self, rust):
@@ -116,7 +118,7 @@ def calls_out_of_turn():
                   turns=[STEP, FINISH, STEP])
     # After the end nothing is checked: not the walk address, not the start, not the lists.
     yield Example('after the end, made up', C3, END_OF_C3 * 3 + (END_OF_C3 + 'place 00000001 00000000 00000009\n') * 2,
-                  turns=[STEP, turn((ADDRESS, 0)), turn((START, 2), (LAST_POOL, 8)), turn(places=[(AT_LABELS, 0, 9)])])
+                  turns=[STEP, turn((ADDRESS, 0)), turn((START, 2), (LAST_POOL, 8)), turn(places=[(IN_LABELS, 0, 9)])])
 
 
 def registers():
@@ -142,6 +144,8 @@ def full_lists():
     two = [pool(0, 3), pool(1, 4), RETURN, 0x11111111, 0x22222222]
     yield Example('pools: the last place', two, '', 'rust', places=(0, 2, 0, 0, 0))
     yield Example('pools: one more', two, full(0x02000004), 'to 02000004', places=(0, 1, 0, 0, 0))
+    yield Example('pools: one more, and two numbers of its row', two, full(0x02000004), 'to 02000004', places=(0, 1, 0, 0, 0), more=2)
+    yield Example('pools: the last place, and two numbers left over', two, '', 'rust', places=(0, 2, 0, 0, 0), more=2)
     yield Example('pools: held', [pool(0, 3), pool(1, 3), RETURN, 0x11111111], '', 'rust', places=(0, 1, 0, 0, 0))
     yield Example('C9: a mark needs no place', C9, '', 'rust', places=(0, 1, 0, 0, 0))
 
@@ -149,26 +153,29 @@ def full_lists():
     two = table + [b(2, 5), b(3, 5), b(4, 5)] + table + [b(7, 10), b(8, 10), b(9, 10), RETURN]
     yield Example('jump tables: the last place', two, '', 'rust', places=(2, 0, 2, 0, 0))
     yield Example('jump tables: one more', two, full(0x02000018), 'to 02000018', places=(2, 0, 1, 0, 0))
+    yield Example('jump tables: one more, and a number of its row', two, full(0x02000018), 'to 02000018', places=(2, 0, 1, 0, 0), more=1)
     held, label = 'jump 0200000c 0000000c\n', 'label 02000018\n'
     text = f'step 02000000 02000004\njump 0200000c 00000004\nstep 02000004 02000008\n{held}'
     text += ''.join(f'step {a:08x} {a + 4:08x}\n{label}{held}' for a in range(0x02000008, 0x02000018, 4))
     text += f'function 02000000 0200001c 02000000 0200001c\n{label}{held}'
     yield Example('jump tables: held, made up', C8, text, places=(1, 0, 1, 0, 0),
-                  turns=[turn((JUMPS, 1), places=[(AT_JUMPS, 0, 0x0200000C), (AT_JUMP_SIZES, 0, 4)])])
+                  turns=[turn((JUMPS, 1), places=[(IN_JUMPS, 0, 0x0200000C), (IN_JUMPS, 1, 4)])])
 
     two = [sub_pc(3, 0, 0x40), table_load(3), NOP, sub_pc(4, 12, 0x80), table_load(4), RETURN]
     yield Example('inline tables: the last place', two, '', 'rust', places=(0, 0, 0, 2, 0))
     yield Example('inline tables: one more', two, full(0x02000010), 'to 02000010', places=(0, 0, 0, 1, 0))
+    yield Example('inline tables: one more, and a number of its row', two, full(0x02000010), 'to 02000010', places=(0, 0, 0, 1, 0), more=1)
     same = [sub_pc(3, 0, 0x40), table_load(3), NOP, sub_pc(4, 12, 0x40), table_load(4), RETURN]
     yield Example('inline tables: held', same, '', 'rust', places=(0, 0, 0, 1, 0))
 
     two = [b(0, 0x40, AL, 1), b(1, 0x41, AL, 1), RETURN]
     yield Example('calls: the last place', two, '', 'rust', places=(0, 0, 0, 0, 2))
     yield Example('calls: one more', two, full(0x02000004), 'to 02000004', places=(0, 0, 0, 0, 1))
+    yield Example('calls: one more, and three numbers of its row', two, full(0x02000004), 'to 02000004', places=(0, 0, 0, 0, 1), more=3)
     one = 'call 02000000 eb00003e 02000100 arm\n'
     yield Example('calls: held, made up', [b(0, 0x40, AL, 1), RETURN],
                   f'step 02000000 02000004\n{one}function 02000000 02000008 02000000 02000008\n{one}', places=(0, 0, 0, 0, 1),
-                  turns=[turn((CALLS, 1), places=[(AT_CALLS, 0, BASE), (AT_WORDS, 0, 5)])])
+                  turns=[turn((CALLS, 1), places=[(IN_CALLS, 0, BASE), (IN_CALLS, 1, 5)])])
 
     # Which of two refusals comes first.
     yield Example('12 before 13', [0xE3500101, 0x908FF100], '', 'rust', places=(0, 0, 0, 0, 0))
@@ -196,31 +203,47 @@ def made_up():
                   [turn((START, BASE + 2)), turn((START, BASE + 8)), turn((START, BASE - 4)), turn((START, BASE))])
     yield refused('4: a count above its list', ''.join(NO_4 + line for line in EMPTY),
                   [turn((LABELS + k, 2), (LABELS + k - 1, 0) if k else (0, 0)) for k in range(5)] + [turn((CALLS, 0))], places=ONE)
-    yield refused('4: a nonzero place after the count', ''.join(f'{NO_4}place {column:08x} 00000000 00000009\n' for column in range(1, 13)),
-                  [turn(places=[(column, 0, 9), (column - 1, 0, 0)]) for column in range(1, 13)] + [turn(places=[(AT_MODES, 0, 0)])])
-    yield refused('4: the last place', NO_4 + 'place 00000001 000003ff 00000009\n' + NO_4 + 'place 00000008 0000003f 00000009\n',
-                  [turn(places=[(AT_LABELS, 1023, 9)]), turn(places=[(AT_LABELS, 1023, 0), (AT_INLINE_SIZES, 63, 9)]), turn(places=[(AT_INLINE_SIZES, 63, 0)])])
+    first_row = [(rows, at) for rows, stride in ROWS.items() for at in range(stride)]
+    yield refused('4: a nonzero place after the count', ''.join(f'{NO_4}place {rows:08x} {at:08x} 00000009\n' for rows, at in first_row),
+                  [turn(places=[(*place, 9), (*before, 0)]) for place, before in zip(first_row, [(0, 0)] + first_row)]
+                  + [turn(places=[(*first_row[-1], 0)])])
+    yield refused('4: the last place', NO_4 + 'place 00000001 000003ff 00000009\n' + NO_4 + 'place 00000004 0000007f 00000009\n',
+                  [turn(places=[(IN_LABELS, 1023, 9)]), turn(places=[(IN_LABELS, 1023, 0), (IN_INLINES, 127, 9)]),
+                   turn(places=[(IN_INLINES, 127, 0)])])
+    yield from left_over(refused)
     yield from out_of_order(refused)
     yield from pools_made_up(refused)
     yield refused("4: a register's pool that is not in the list", NO_4 * 2,
                   [turn((SOURCE, BASE)), turn((SOURCE, 0), (SOURCE + 15, BASE)), turn((SOURCE + 15, 0))])
     left = 'place 00000001 00000000 00000009\n'
     yield refused('2 before 3 and 4, 3 before 4', f'refused 2 00000000\n{left}refused 2 00000000\n{left}refused 3 00000000\n{left}',
-                  [turn((ADDRESS, 0), places=[(AT_LABELS, 0, 9)]), turn((START, BASE + 2)), turn((ADDRESS, BASE)),
-                   turn((START, BASE), places=[(AT_LABELS, 0, 0)])])
+                  [turn((ADDRESS, 0), places=[(IN_LABELS, 0, 9)]), turn((START, BASE + 2)), turn((ADDRESS, BASE)),
+                   turn((START, BASE), places=[(IN_LABELS, 0, 0)])])
     yield from ends_made_up()
 
 
+def left_over(refused):
+    """Numbers behind the last whole row: they hold zero, as every place after the count."""
+    last = [(rows, stride) for rows, stride in ROWS.items() if rows != IN_LABELS]
+    yield refused('4: a nonzero place behind the last row', ''.join(f'{NO_4}place {rows:08x} {at:08x} 00000009\n' for rows, at in last),
+                  [turn(places=[(*place, 9), (*before, 0)]) for place, before in zip(last, [(0, 0)] + last)] + [turn(places=[(*last[-1], 0)])],
+                  places=ONE, more=1)
+    yield refused('4: a count above its list, with two numbers of the next row', NO_4 + EMPTY[1] + NO_4 + EMPTY[4],
+                  [turn((POOLS, 2)), turn((POOLS, 0), (CALLS, 2)), turn((CALLS, 0))], places=ONE, more=2)
+
+
 def out_of_order(refused):
-    for part, column, first, second, form in (
-            (LABELS, AT_LABELS, 8, 8, 'label {:08x}\n'), (LABELS, AT_LABELS, 8, 4, 'label {:08x}\n'),
-            (JUMPS, AT_JUMPS, 8, 4, 'jump {:08x} 00000000\n'), (INLINES, AT_INLINES, 8, 8, 'inline {:08x} 00000000\n'),
-            (CALLS, AT_CALLS, 8, 4, 'call {:08x} 00000000 00000000 arm\n')):
+    for part, rows, first, second, form in (
+            (LABELS, IN_LABELS, 8, 8, 'label {:08x}\n'), (LABELS, IN_LABELS, 8, 4, 'label {:08x}\n'),
+            (JUMPS, IN_JUMPS, 8, 4, 'jump {:08x} 00000000\n'), (INLINES, IN_INLINES, 8, 8, 'inline {:08x} 00000000\n'),
+            (CALLS, IN_CALLS, 8, 4, 'call {:08x} 00000000 00000000 arm\n')):
+        one, two = (rows, 0), (rows, ROWS[rows])
         yield refused('4: entries not ascending', NO_4 + form.format(first) + form.format(second),
-                      [turn((part, 2), places=[(column, 0, first), (column, 1, second)]), turn((part, 0), places=[(column, 0, 0), (column, 1, 0)])])
+                      [turn((part, 2), places=[(*one, first), (*two, second)]), turn((part, 0), places=[(*one, 0), (*two, 0)])])
+    one, two = (IN_POOLS, 0), (IN_POOLS, ROWS[IN_POOLS])
     yield refused('4: pools not ascending', NO_4 + 'pool 02000000 00000000 other\n' * 2,
-                  [turn((POOLS, 2), (LAST_POOL, BASE), places=[(AT_POOLS, 0, BASE), (AT_POOLS, 1, BASE)]),
-                   turn((POOLS, 0), (LAST_POOL, 0), places=[(AT_POOLS, 0, 0), (AT_POOLS, 1, 0)])])
+                  [turn((POOLS, 2), (LAST_POOL, BASE), places=[(*one, BASE), (*two, BASE)]),
+                   turn((POOLS, 0), (LAST_POOL, 0), places=[(*one, 0), (*two, 0)])])
 
 
 def pools_made_up(refused):
@@ -229,15 +252,15 @@ def pools_made_up(refused):
     passed = 'step 02000000 02000004\n' + line.format(BASE) + 'refused 14 00000000\n'
     wrong = [BASE + 4, BASE + 1, BASE - 4]
     yield Example('4: a pool not wholly in the code', C3, ''.join(NO_4 + line.format(at) for at in wrong) + passed,
-                  turns=[turn((POOLS, 1), (LAST_POOL, at), places=[(AT_POOLS, 0, at)]) for at in wrong + [BASE]])
+                  turns=[turn((POOLS, 1), (LAST_POOL, at), places=[(IN_POOLS, 0, at)]) for at in wrong + [BASE]])
     yield Example("4: a last pool other than the list's", C3, (NO_4 + line.format(BASE)) * 2 + passed,
-                  turns=[turn((POOLS, 1), places=[(AT_POOLS, 0, BASE)]), turn((LAST_POOL, BASE + 4)), turn((LAST_POOL, BASE))])
+                  turns=[turn((POOLS, 1), places=[(IN_POOLS, 0, BASE)]), turn((LAST_POOL, BASE + 4)), turn((LAST_POOL, BASE))])
     yield refused('4: a last pool and no pools', NO_4, [turn((LAST_POOL, BASE)), turn((LAST_POOL, 0))])
 
 
 def ends_made_up():
     def inline(address, size):
-        return [turn((INLINES, 1), places=[(AT_INLINES, 0, address), (AT_INLINE_SIZES, 0, size)])]
+        return [turn((INLINES, 1), places=[(IN_INLINES, 0, address), (IN_INLINES, 1, size)])]
 
     yield Example("12: an inline table's end leaves 32 bits, met at a skip", C3, 'refused 12 02000000\n' * 2, turns=inline(BASE, 0xFE000000))
     yield Example("12: an inline table's end that does not", C3, 'step 02000000 ffffffff\ninline 02000000 fdffffff\nrefused 14 00000000\n',

@@ -5,10 +5,10 @@ Usage: fresh.py WALK PROGRAMS COUNT SEED
 
 WALK is the path of the built oracle, PROGRAMS the folder with this repository's `walks`, `listings` and `listfn` (target/bin after `rt check walks
 listings listfn`). Of the requests three in ten are rich functions (rich.py), about as many are planned or rich ones with words and options changed,
-and the others are code and options at random. Each runs in `walks` with as many places as the lists can have, and once more with few; what a list
-without room must answer, 13, is worked out from the original's own lists. Each that has no existing starts, which the listing program does not
-know, goes through `listings` too, and the first ten of each batch through `listfn`: they must print the end of the original's listing. Prints how many
-agreed and the first that did not, and fails if any did not.
+and the others are code and options at random. Each runs in `walks` with as many places as the lists can have, and once more with few and some
+numbers left over behind them; what a list without room must answer, 13, is worked out from the original's own lists. Each that has no existing
+starts, which the listing program does not know, goes through `listings` too, and the first ten of each batch through `listfn`: they must print the
+end of the original's listing. Prints how many agreed and the first that did not, and fails if any did not.
 """
 import collections
 import pathlib
@@ -19,6 +19,7 @@ import subprocess
 import sys
 
 import walk
+from examples import ROWS
 from rich import rich
 
 BATCH = 2000
@@ -27,11 +28,16 @@ MOST = (1024, 1024, 64, 64, 1024)
 KINDS = ('label', 'pool', 'jump', 'inline', 'call')
 
 
-def with_places(request, places):
+def room(places, more):
+    """The rows of each list that fit, where it is lent so many numbers more."""
+    return tuple(min(most, rows + more // stride) for most, rows, stride in zip(MOST, places, ROWS.values()))
+
+
+def with_places(request, places, more):
     """A request of version 3, without planned turns."""
     body = b'\3' + struct.pack('>5IB', *request.numbers, request.check)
     body += struct.pack(f'>{len(request.existing) + 1}I', len(request.existing), *request.existing)
-    body += struct.pack('>6I', *places, 0) + request.code
+    body += struct.pack('>7I', *places, more, 0) + request.code
     return struct.pack('>I', len(body)) + body
 
 
@@ -144,11 +150,12 @@ def main():
     for first in range(0, count, BATCH):
         requests = [fresh() for _ in range(min(BATCH, count - first))]
         places = [tuple(random.choice((0, 1, 2, 3, 5, 64)) for _ in KINDS) for _ in requests]
+        more = [random.choice((0, 0, 1, 2, 3)) for _ in requests]
         expected = original(oracle, requests)
-        given = listings(programs / 'walks', b''.join(with_places(request, MOST) for request in requests))
-        few = listings(programs / 'walks', b''.join(with_places(*pair) for pair in zip(requests, places)))
+        given = listings(programs / 'walks', b''.join(with_places(request, MOST, 0) for request in requests))
+        few = listings(programs / 'walks', b''.join(with_places(*parts) for parts in zip(requests, places, more)))
         assert len(expected) == len(given) == len(few) == len(requests)
-        for parts in zip(requests, expected, given, few, places, listed(programs, requests)):
+        for parts in zip(requests, expected, given, few, map(room, places, more), listed(programs, requests)):
             tally.add(*parts)
     compared = sum(tally.ends.values())
     print(f'{compared - tally.different} agreed, {tally.different} did not, {tally.left_out} left out')

@@ -7,37 +7,42 @@ use Prim.Native.Nat.{ℕ}
 use native.Mathlib.Omega.{arith}
 use lib.Dec.{leb}
 use Rattle.answers.specs.Answers.{numberOf}
-use Rattle.apply.specs.Apply.{Lists, noCounts}
-use Rattle.functions.specs.Calls.{Run}
-use Rattle.lists.specs.Place.{pick}
+use Rattle.base.specs.Choice.{pick}
+use Rattle.context.specs.Lists.{Lists}
+use Rattle.context.specs.Turn.{noMaps, countsOf}
+use Rattle.stepper.specs.Calls.{After}
 use Rattle.walk.specs.declared.Answer.{Answer}
 use Rattle.walk.specs.declared.Answer.the-variants.{Going, Accepted, Refused}
+use Rattle.walk.specs.declared.Counts.{Counts}
 use Rattle.walk.specs.declared.Options.{Options}
 use Rattle.ended.specs.Ended.{EndedBy}
 use Rattle.whole.specs.Whole.{run}
 use Rattle.ended.proofs.EndedLaws.{ended}
 use Rattle.cugbejin_c.specs.Numbers.{recordOf}
 
-either-none : (b : Bool) → pick b noCounts noCounts ≡ noCounts
+abbrev none : Counts
+none = countsOf noMaps
+
+either-none : (b : Bool) → pick b none none ≡ none
 either-none true = refl
 either-none false = refl
 
 module _ (o : Options) (start : ℕ) (code starts : List ℕ) (l : Lists) where
-  abbrev all : Run
-  all = run o code starts start noCounts l
+  abbrev all : After
+  all = run o code starts start none l
 
   pub zero-accepted : numberOf (all .answer) ≡ 0 → all .answer ≡ Accepted (recordOf (all .answer))
-  zero-accepted = go (all .answer) (ended o start code starts noCounts l)
+  zero-accepted = go (all .answer) (ended o start code starts none l)
     where
-      go : (a : Answer) → EndedBy noCounts l all a → numberOf a ≡ 0 → a ≡ Accepted (recordOf a)
+      go : (a : Answer) → EndedBy none l all a → numberOf a ≡ 0 → a ≡ Accepted (recordOf a)
       go Going h e = absurd h
       go (Accepted r) h e = refl
       go (Refused number address register) h e = absurd (omega (arith, e, h .least))
 
-  pub refused-empty : (numberOf (all .answer) ≡ 0 → ⊥) → all .walk .counts ≡ noCounts
-  refused-empty = go (all .answer) (ended o start code starts noCounts l)
+  pub refused-empty : (numberOf (all .answer) ≡ 0 → ⊥) → all .walk .counts ≡ none
+  refused-empty = go (all .answer) (ended o start code starts none l)
     where
-      go : (a : Answer) → EndedBy noCounts l all a → (numberOf a ≡ 0 → ⊥) → all .walk .counts ≡ noCounts
+      go : (a : Answer) → EndedBy none l all a → (numberOf a ≡ 0 → ⊥) → all .walk .counts ≡ none
       go Going h some = absurd h
       go (Accepted r) h some = absurd (some refl)
       go (Refused number address register) h some = h .counted ∙ either-none (leb number 4)

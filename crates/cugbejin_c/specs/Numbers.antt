@@ -5,9 +5,9 @@ use mathlib.Core.Bool.{not}
 use mathlib.Core.List.{List, [], _∷_}
 use lib.Dec.{eqb}
 use Rattle.answers.specs.Answers.{numberOf, addressOf, registerOf}
-use Rattle.apply.specs.Apply.{Lists}
-use Rattle.functions.specs.Calls.{Run}
-use Rattle.lists.specs.Place.{pick}
+use Rattle.base.specs.Choice.{pick}
+use Rattle.context.specs.Lists.{Lists}
+use Rattle.stepper.specs.Calls.{After}
 use Rattle.walk.specs.declared.Answer.{Answer}
 use Rattle.walk.specs.declared.Answer.the-variants.{Going, Accepted, Refused}
 use Rattle.walk.specs.declared.Counts.{Counts}
@@ -44,11 +44,11 @@ numbersOf a r n =
     ∷ r .start ∷ r .end ∷ r .«first_instruction» ∷ r .«last_instruction_end»
     ∷ n .labels ∷ n .pools ∷ n .«jump_tables» ∷ n .«inline_tables» ∷ n .calls ∷ []
 
-abbrev pub answerNumbers : Run → List ℕ
-answerNumbers r = numbersOf (r .answer) (recordOf (r .answer)) (r .walk .counts)
+abbrev pub answerNumbers : After → List ℕ
+answerNumbers a = numbersOf (a .answer) (recordOf (a .answer)) (a .walk .counts)
 
 -- a call returned the number, and left the answer and the lists
-pub record Told (number : ℕ) (answer : List ℕ) (lists : Lists) (run : Run) : Type 0 where
-  pub returns : number ≡ numberOf (run .answer)
-  pub tells : answer ≡ answerNumbers run
-  pub holds : lists ≡ run .lists
+pub record Told (number : ℕ) (answer : List ℕ) (lists : Lists) (after : After) : Type 0 where
+  pub returns : number ≡ numberOf (after .answer)
+  pub tells : answer ≡ answerNumbers after
+  pub holds : lists ≡ after .lists

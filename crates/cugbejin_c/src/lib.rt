@@ -1,11 +1,14 @@
-// The whole walk for programs in other languages: a slice is a pointer and a length, and an answer is twelve numbers.
+// The whole walk for programs in other languages: a slice is a pointer and a length, and an answer is twelve numbers. A list's rows stand one after
+// another, so that a host may lend an array of structs of 32-bit numbers.
+use outcome::no_counts;
 use walk::Answer;
 use walk::Counts;
 use walk::KnownEnd;
 use walk::Options;
 use walk::Record;
 ghost use mathlib.Core.Path.{_≡_};
-ghost use Rattle.apply.specs.Apply.{lists, noCounts};
+ghost use Rattle.context.specs.Lists.{lists};
+ghost use Rattle.context.specs.Turn.{noMaps, countsOf};
 ghost use Rattle.whole.specs.Whole.{run};
 ghost use Rattle.cugbejin_c.specs.Numbers.{knownFrom, optionsFrom, noRecord, recordOf, numbersOf, Told};
 
@@ -91,19 +94,12 @@ pub extern "C" fn cugbejin_run(
     starts: &[u32],
     labels: &mut [u32],
     pools: &mut [u32],
-    pool_values: &mut [u32],
-    pool_marks: &mut [u32],
     jump_tables: &mut [u32],
-    jump_sizes: &mut [u32],
     inline_tables: &mut [u32],
-    inline_sizes: &mut [u32],
     calls: &mut [u32],
-    call_words: &mut [u32],
-    call_destinations: &mut [u32],
-    call_modes: &mut [u32],
     answer: &mut [u64; 12],
 ) -> u32
-    ensures { λ r. ⌜ Told r (now (answer .exit)) (lists (now (labels .exit)) (now (pools .exit)) (now («pool_values» .exit)) (now («pool_marks» .exit)) (now («jump_tables» .exit)) (now («jump_sizes» .exit)) (now («inline_tables» .exit)) (now («inline_sizes» .exit)) (now (calls .exit)) (now («call_words» .exit)) (now («call_destinations» .exit)) (now («call_modes» .exit))) (run (optionsFrom base «module_start» «module_end» known «known_end» check) (now (code .entry)) (now (starts .entry)) start noCounts (lists (now (labels .entry)) (now (pools .entry)) (now («pool_values» .entry)) (now («pool_marks» .entry)) (now («jump_tables» .entry)) (now («jump_sizes» .entry)) (now («inline_tables» .entry)) (now («inline_sizes» .entry)) (now (calls .entry)) (now («call_words» .entry)) (now («call_destinations» .entry)) (now («call_modes» .entry)))) ⌝ }
+    ensures { λ r. ⌜ Told r (now (answer .exit)) (lists (now (labels .exit)) (now (pools .exit)) (now («jump_tables» .exit)) (now («inline_tables» .exit)) (now (calls .exit))) (run (optionsFrom base «module_start» «module_end» known «known_end» check) (now (code .entry)) (now (starts .entry)) start (countsOf noMaps) (lists (now (labels .entry)) (now (pools .entry)) (now («jump_tables» .entry)) (now («inline_tables» .entry)) (now (calls .entry)))) ⌝ }
 {
     let options = options_from(base, module_start, module_end, known, known_end, check);
     let ran = whole::run(
@@ -113,17 +109,10 @@ pub extern "C" fn cugbejin_run(
         starts,
         labels,
         pools,
-        pool_values,
-        pool_marks,
         jump_tables,
-        jump_sizes,
         inline_tables,
-        inline_sizes,
         calls,
-        call_words,
-        call_destinations,
-        call_modes,
-        apply::no_counts(),
+        no_counts(),
     );
     let given = ran.answer;
     let counts = ran.walk.counts;

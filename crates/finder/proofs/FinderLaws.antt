@@ -3,21 +3,26 @@
 use mathlib.Core.Path.{_≡_, refl, ap}
 use mathlib.Core.Bool.{Bool, true, false}
 use mathlib.Core.List.{List, [], _++_}
-use Prim.Native.Nat.{ℕ, _+_, _*_, _≤_}
+use Prim.Native.Nat.{ℕ, _+_, _*_, _/_, _≤_}
 use native.Mathlib.Omega.{arith}
 use borrow.Author.Tests.{leb-false}
 use lib.Dec.{leb}
 use lib.ListN.{length, length-append}
-use Rattle.apply.specs.Apply.{Lists, noCounts}
-use Rattle.functions.specs.Calls.{Run, Called, refused}
-use Rattle.functions.specs.declared.Stepped.{Stepped}
+use Rattle.base.specs.Refusals.{badRequest}
+use Rattle.context.specs.Context.{labelRow, poolRow, tableRow, callRow}
+use Rattle.context.specs.Lists.{Lists, mapsIn}
+use Rattle.context.specs.Turn.{noMaps, countsOf}
+use Rattle.ended.specs.Ended.{EndedBy}
+use Rattle.ended.proofs.EndedLaws.{ended}
 use Rattle.listing.specs.Lines.{field, newline}
 use Rattle.listing.specs.Listing.{recordLine, refusalLine, shown, listLines, textWith, textOf, roomWith, roomFor}
-use Rattle.listing.proofs.ListingLaws.{record-length, shown-fits}
+use Rattle.listing.proofs.ListingLaws.{record-length}
 use Rattle.request.specs.declared.Parsed.{Parsed}
 use Rattle.request.specs.declared.Parsed.the-variants.{Asked, Refused}
 use Rattle.request.specs.declared.Request.{Request}
 use Rattle.request.specs.Request.{codeOf, parsed}
+use Rattle.stepper.specs.declared.Answered.{Answered as Stepped}
+use Rattle.stepper.specs.Calls.{After, Called, refused}
 use Rattle.text.specs.Decimal.{strip, decimal}
 use Rattle.text.specs.Hex.{pick, hexDigit, digits, hex}
 use Rattle.text.specs.Put.{put}
@@ -26,9 +31,7 @@ use Rattle.walk.specs.declared.Answer.{Answer}
 use Rattle.walk.specs.declared.Answer.the-variants.{Going, Accepted, Refused as Refused-by}
 use Rattle.walk.specs.declared.Counts.{Counts}
 use Rattle.walk.specs.declared.Walk.{Walk}
-use Rattle.ended.specs.Ended.{EndedBy}
 use Rattle.whole.specs.Whole.{run}
-use Rattle.ended.proofs.EndedLaws.{ended}
 use Rattle.words.specs.Answer.{Answered}
 use Rattle.words.specs.Names.{bytes}
 use Rattle.words.specs.declared.Answer as words
@@ -37,7 +40,7 @@ use Rattle.finder.specs.declared.Outcome.{Outcome}
 use Rattle.finder.specs.Finder.{Listing, Finds, foundBy, foundIn, found, textBy, roomBy, Listed}
 
 pub run-finds : (r : Request) (code : List ℕ) (n : Counts) (before after : Lists) (s : Stepped)
-    → n ≡ noCounts
+    → n ≡ countsOf noMaps
     → Called s after (run (r .options) code [] (r .start) n before)
     → Finds (record { answer = s .answer; counts = s .walk .counts }) after (foundBy r code before)
 unfolding foundBy
@@ -53,7 +56,8 @@ module _ (input : List ℕ) (before : Lists) where
   unfolding found foundIn
   asked-finds after r f is h = rw is h
 
-  pub refused-finds : (n : Counts) → parsed input ≡ Refused → n ≡ noCounts → Finds (record { answer = refused 16; counts = n }) before (found input before)
+  pub refused-finds : (n : Counts) → parsed input ≡ Refused → n ≡ countsOf noMaps
+      → Finds (record { answer = refused badRequest; counts = n }) before (found input before)
   unfolding found foundIn
   refused-finds n is none = rw is (record { answers = refl; counted = none; holds = refl })
 
@@ -74,7 +78,7 @@ module _ (input : List ℕ) (before : Lists) where
 -- a record's line and its lists, or a refusal's line
 abbrev pub Lines : Answer → Lists → Counts → List ℕ → Type 0
 Lines Going l n text = ⊥
-Lines (Accepted r) l n text = text ≡ recordLine r ++ listLines l n
+Lines (Accepted r) l n text = text ≡ recordLine r ++ listLines (mapsIn n l)
 Lines (Refused-by number address register) l n text = text ≡ refusalLine number address
 
 some-lines : (a : Answer) (l : Lists) (n : Counts) (text : List ℕ) → Lines a l n text → 1 ≤ length text
@@ -92,26 +96,31 @@ module _ (input : List ℕ) (before : Lists) where
   unfolding found foundIn foundBy
   found-ends = go (parsed input)
     where
-      over : (r : Run) (a : Answer) → EndedBy noCounts before r a → a ≡ Going → ⊥
-      over r Going h e = h
-      over r (Accepted x) h e = let z : _≡_ {A = ℕ} 0 1 = cc in omega arith
-      over r (Refused-by number address register) h e = let z : _≡_ {A = ℕ} 0 1 = cc in omega arith
+      over : (x : After) (a : Answer) → EndedBy (countsOf noMaps) before x a → a ≡ Going → ⊥
+      over x Going h e = h
+      over x (Accepted r) h e = let z : _≡_ {A = ℕ} 0 1 = cc in omega arith
+      over x (Refused-by number address register) h e = let z : _≡_ {A = ℕ} 0 1 = cc in omega arith
 
       go : (p : Parsed) → foundIn p input before .answer ≡ Going → ⊥
-      go (Asked r) e = over (run (r .options) (codeOf input) [] (r .start) noCounts before) _ (ended (r .options) (r .start) (codeOf input) [] noCounts before) e
+      go (Asked r) e =
+          over (run (r .options) (codeOf input) [] (r .start) (countsOf noMaps) before) _
+          (ended (r .options) (r .start) (codeOf input) [] (countsOf noMaps) before) e
       go Refused e = let z : _≡_ {A = ℕ} 0 1 = cc in omega arith
+
+  abbrev listed : Counts
+  listed = shown (all .lists) (all .counts)
 
   pub found-lines : Lines (all .answer) (all .lists) (shown (all .lists) (all .counts)) (textBy all)
   unfolding textOf textWith
   found-lines = go (all .answer) found-ends
     where
-      go : (a : Answer) → (a ≡ Going → ⊥) → Lines a (all .lists) (shown (all .lists) (all .counts)) (textWith a (all .lists) (shown (all .lists) (all .counts)))
+      go : (a : Answer) → (a ≡ Going → ⊥) → Lines a (all .lists) listed (textWith a (mapsIn listed (all .lists)))
       go Going h = absurd (h refl)
       go (Accepted r) h = refl
       go (Refused-by number address register) h = refl
 
   pub text-some : 1 ≤ length (textBy all)
-  text-some = some-lines (all .answer) (all .lists) (shown (all .lists) (all .counts)) (textBy all) found-lines
+  text-some = some-lines (all .answer) (all .lists) listed (textBy all) found-lines
 
 -- ---- the buffer
 
@@ -132,16 +141,21 @@ listed-within {input} {out} {left} {before} {r = r} {n = n} h is = go (leb room 
         rw (q, put-front) (simp length-append (omega arith))
     go false p q = let z : _≡_ {A = ℕ} 0 1 = cc in absurd (omega arith)
 
--- a buffer with 45 bytes, and 40 for each place of each list, is never too short
-pub room-most : (l : Lists) (n : Counts)
-    → roomFor l n ≤ 45 + 40 * (length (l .labels) + length (l .pools) + length (l .jumps) + length (l .inlines) + length (l .calls))
-unfolding roomFor roomWith
-room-most l n = let f = shown-fits l n in omega (arith, f .labels, f .pools, f .jumps, f .inlines, f .calls)
+-- the rows that the lists have places for
+abbrev pub rowsIn : Lists → ℕ
+rowsIn l =
+    length (l .labels) / labelRow + length (l .pools) / poolRow + length (l .«jump_tables») / tableRow + length (l .«inline_tables») / tableRow
+    + length (l .calls) / callRow
+
+-- a buffer with 45 bytes, and 40 for each of them, is never too short
+pub room-most : (l : Lists) (n : Counts) → roomFor l n ≤ 45 + 40 * rowsIn l
+unfolding roomFor roomWith shown
+room-most l n = omega arith
 
 -- so NoRoom never comes for one
 pub never-short : {input out left : List ℕ} {before after : Lists} {r : words.Answer}
     → Listed input before after out r left
-    → 45 + 40 * (length (after .labels) + length (after .pools) + length (after .jumps) + length (after .inlines) + length (after .calls)) ≤ length out
+    → 45 + 40 * rowsIn after ≤ length out
     → r ≡ NoRoom → ⊥
 never-short {input} {out} {before = before} {after = after} {r = r} h most = go (leb room (length out)) refl (h .text .answer)
   where

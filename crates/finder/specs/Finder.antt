@@ -2,8 +2,10 @@
 use Prim.Native.Nat.{ℕ}
 use mathlib.Core.Path.{_≡_}
 use mathlib.Core.List.{List, []}
-use Rattle.apply.specs.Apply.{Lists, noCounts}
-use Rattle.functions.specs.Calls.{Run, refused}
+use Rattle.base.specs.Refusals.{badRequest}
+use Rattle.context.specs.Lists.{Lists}
+use Rattle.context.specs.Turn.{noMaps, countsOf}
+use Rattle.stepper.specs.Calls.{After, refused}
 use Rattle.listing.specs.Listing.{textOf, roomFor}
 use Rattle.request.specs.declared.Parsed.{Parsed}
 use Rattle.request.specs.declared.Parsed.the-variants.{Asked, Refused}
@@ -22,17 +24,17 @@ pub record Listing : Type 0 where
   pub lists : Lists
   pub counts : Counts
 
-abbrev pub listingOf : Run → Listing
-listingOf r = record { answer = r .answer; lists = r .lists; counts = r .walk .counts }
+abbrev pub listingOf : After → Listing
+listingOf a = record { answer = a .answer; lists = a .lists; counts = a .walk .counts }
 
 -- the whole walk, with no existing starts and no entries yet
 unfoldable pub foundBy : Request → List ℕ → Lists → Listing
-foundBy r code l = listingOf (run (r .options) code [] (r .start) noCounts l)
+foundBy r code l = listingOf (run (r .options) code [] (r .start) (countsOf noMaps) l)
 
 -- what is no request is refused as 16, and no list changes
 unfoldable pub foundIn : Parsed → List ℕ → Lists → Listing
 foundIn (Asked r) input l = foundBy r (codeOf input) l
-foundIn Refused input l = record { answer = refused 16; lists = l; counts = noCounts }
+foundIn Refused input l = record { answer = refused badRequest; lists = l; counts = countsOf noMaps }
 
 unfoldable pub found : List ℕ → Lists → Listing
 found input l = foundIn (parsed input) input l

@@ -1,10 +1,12 @@
 // The listing program's work on slices: a request in, the listing of the function out.
+use base::refusal::BAD_REQUEST;
+use outcome::no_counts;
 use request::Parsed;
 use request::Request;
 use walk::Answer;
 use walk::Counts;
 ghost use mathlib.Core.Path.{_≡_};
-ghost use Rattle.apply.specs.Apply.{lists};
+ghost use Rattle.context.specs.Lists.{lists};
 ghost use Rattle.words.specs.declared.Answer.the-variants.{Text, NoRoom};
 ghost use Rattle.finder.specs.Finder.{Finds, foundBy, found, Listed};
 
@@ -20,18 +22,11 @@ fn walk_whole(
     code: &[u8],
     labels: &mut [u32],
     pools: &mut [u32],
-    pool_values: &mut [u32],
-    pool_marks: &mut [u32],
     jump_tables: &mut [u32],
-    jump_sizes: &mut [u32],
     inline_tables: &mut [u32],
-    inline_sizes: &mut [u32],
     calls: &mut [u32],
-    call_words: &mut [u32],
-    call_destinations: &mut [u32],
-    call_modes: &mut [u32],
 ) -> Outcome
-    ensures { λ f. ⌜ Finds f (lists (now (labels .exit)) (now (pools .exit)) (now («pool_values» .exit)) (now («pool_marks» .exit)) (now («jump_tables» .exit)) (now («jump_sizes» .exit)) (now («inline_tables» .exit)) (now («inline_sizes» .exit)) (now (calls .exit)) (now («call_words» .exit)) (now («call_destinations» .exit)) (now («call_modes» .exit))) (foundBy r (now (code .entry)) (lists (now (labels .entry)) (now (pools .entry)) (now («pool_values» .entry)) (now («pool_marks» .entry)) (now («jump_tables» .entry)) (now («jump_sizes» .entry)) (now («inline_tables» .entry)) (now («inline_sizes» .entry)) (now (calls .entry)) (now («call_words» .entry)) (now («call_destinations» .entry)) (now («call_modes» .entry)))) ⌝ }
+    ensures { λ f. ⌜ Finds f (lists (now (labels .exit)) (now (pools .exit)) (now («jump_tables» .exit)) (now («inline_tables» .exit)) (now (calls .exit))) (foundBy r (now (code .entry)) (lists (now (labels .entry)) (now (pools .entry)) (now («jump_tables» .entry)) (now («inline_tables» .entry)) (now (calls .entry)))) ⌝ }
 {
     let starts: [u32; 0] = [];
     let o = r.options;
@@ -42,17 +37,10 @@ fn walk_whole(
         &starts,
         labels,
         pools,
-        pool_values,
-        pool_marks,
         jump_tables,
-        jump_sizes,
         inline_tables,
-        inline_sizes,
         calls,
-        call_words,
-        call_destinations,
-        call_modes,
-        apply::no_counts(),
+        no_counts(),
     );
     let answer = run.answer;
     let walk = run.walk;
@@ -65,18 +53,11 @@ fn find(
     input: &[u8],
     labels: &mut [u32],
     pools: &mut [u32],
-    pool_values: &mut [u32],
-    pool_marks: &mut [u32],
     jump_tables: &mut [u32],
-    jump_sizes: &mut [u32],
     inline_tables: &mut [u32],
-    inline_sizes: &mut [u32],
     calls: &mut [u32],
-    call_words: &mut [u32],
-    call_destinations: &mut [u32],
-    call_modes: &mut [u32],
 ) -> Outcome
-    ensures { λ f. ⌜ Finds f (lists (now (labels .exit)) (now (pools .exit)) (now («pool_values» .exit)) (now («pool_marks» .exit)) (now («jump_tables» .exit)) (now («jump_sizes» .exit)) (now («inline_tables» .exit)) (now («inline_sizes» .exit)) (now (calls .exit)) (now («call_words» .exit)) (now («call_destinations» .exit)) (now («call_modes» .exit))) (found (now (input .entry)) (lists (now (labels .entry)) (now (pools .entry)) (now («pool_values» .entry)) (now («pool_marks» .entry)) (now («jump_tables» .entry)) (now («jump_sizes» .entry)) (now («inline_tables» .entry)) (now («inline_sizes» .entry)) (now (calls .entry)) (now («call_words» .entry)) (now («call_destinations» .entry)) (now («call_modes» .entry)))) ⌝ }
+    ensures { λ f. ⌜ Finds f (lists (now (labels .exit)) (now (pools .exit)) (now («jump_tables» .exit)) (now («inline_tables» .exit)) (now (calls .exit))) (found (now (input .entry)) (lists (now (labels .entry)) (now (pools .entry)) (now («jump_tables» .entry)) (now («inline_tables» .entry)) (now (calls .entry)))) ⌝ }
 {
     match request::parse(input) {
         Parsed::Asked(r) => walk_whole(
@@ -84,24 +65,17 @@ fn find(
             &input[26..],
             labels,
             pools,
-            pool_values,
-            pool_marks,
             jump_tables,
-            jump_sizes,
             inline_tables,
-            inline_sizes,
             calls,
-            call_words,
-            call_destinations,
-            call_modes,
         ),
         Parsed::Refused => Outcome {
             answer: Answer::Refused {
-                number: 16,
+                number: BAD_REQUEST,
                 address: 0,
                 register: 0,
             },
-            counts: apply::no_counts(),
+            counts: no_counts(),
         },
     }
 }
@@ -111,35 +85,14 @@ pub fn list_function(
     input: &[u8],
     labels: &mut [u32],
     pools: &mut [u32],
-    pool_values: &mut [u32],
-    pool_marks: &mut [u32],
     jump_tables: &mut [u32],
-    jump_sizes: &mut [u32],
     inline_tables: &mut [u32],
-    inline_sizes: &mut [u32],
     calls: &mut [u32],
-    call_words: &mut [u32],
-    call_destinations: &mut [u32],
-    call_modes: &mut [u32],
     out: &mut [u8],
 ) -> words::Answer
-    ensures { λ r. ⌜ Listed (now (input .entry)) (lists (now (labels .entry)) (now (pools .entry)) (now («pool_values» .entry)) (now («pool_marks» .entry)) (now («jump_tables» .entry)) (now («jump_sizes» .entry)) (now («inline_tables» .entry)) (now («inline_sizes» .entry)) (now (calls .entry)) (now («call_words» .entry)) (now («call_destinations» .entry)) (now («call_modes» .entry))) (lists (now (labels .exit)) (now (pools .exit)) (now («pool_values» .exit)) (now («pool_marks» .exit)) (now («jump_tables» .exit)) (now («jump_sizes» .exit)) (now («inline_tables» .exit)) (now («inline_sizes» .exit)) (now (calls .exit)) (now («call_words» .exit)) (now («call_destinations» .exit)) (now («call_modes» .exit))) (now (out .entry)) r (now (out .exit)) ⌝ }
+    ensures { λ r. ⌜ Listed (now (input .entry)) (lists (now (labels .entry)) (now (pools .entry)) (now («jump_tables» .entry)) (now («inline_tables» .entry)) (now (calls .entry))) (lists (now (labels .exit)) (now (pools .exit)) (now («jump_tables» .exit)) (now («inline_tables» .exit)) (now (calls .exit))) (now (out .entry)) r (now (out .exit)) ⌝ }
 {
-    let found = find(
-        input,
-        labels,
-        pools,
-        pool_values,
-        pool_marks,
-        jump_tables,
-        jump_sizes,
-        inline_tables,
-        inline_sizes,
-        calls,
-        call_words,
-        call_destinations,
-        call_modes,
-    );
+    let found = find(input, labels, pools, jump_tables, inline_tables, calls);
     let answer = found.answer;
     let counts = found.counts;
     listing::listing(
@@ -147,16 +100,9 @@ pub fn list_function(
         answer,
         labels,
         pools,
-        pool_values,
-        pool_marks,
         jump_tables,
-        jump_sizes,
         inline_tables,
-        inline_sizes,
         calls,
-        call_words,
-        call_destinations,
-        call_modes,
         counts,
     )
 }

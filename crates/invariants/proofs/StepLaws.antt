@@ -48,10 +48,10 @@ abbrev givenIn : Options → List ℕ → List ℕ → Counts → Given
 givenIn o code starts n = record { options = o; places = n; code = code; starts = mapIn 1 (length starts) starts }
 
 module _ (l k : Lists) (places : placesOf l ≡ placesOf k) where
-  same-written : (m : Maps) → written l m ≡ written k m
+  pub same-written : (m : Maps) → written l m ≡ written k m
   same-written m = ap (λ (n : Counts). writtenIn n m) places
 
-  same-given : (o : Options) (code starts : List ℕ) → givenBy o code starts l ≡ givenBy o code starts k
+  pub same-given : (o : Options) (code starts : List ℕ) → givenBy o code starts l ≡ givenBy o code starts k
   same-given o code starts = ap (givenIn o code starts) places
 
 -- ---- steps are turns

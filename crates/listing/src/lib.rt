@@ -1,132 +1,91 @@
-// The listing of a walk's answer and lists, as document 01 has it.
+// The listing of a walk's answer and lists, as document 01 has it. A list is lent as rows, whose numbers `context` tells.
+use context::CALL_ROW;
+use context::LABEL_ROW;
+use context::POOL_ROW;
+use context::TABLE_ROW;
 use walk::Answer;
 use walk::Counts;
 use walk::Record;
 ghost use mathlib.Core.Path.{_≡_};
-ghost use Prim.Native.Nat.{_+_, _*_, _≤_, min};
-ghost use lib.Dec.{leb};
+ghost use Prim.Native.Nat.{_+_, _*_, _^_, _≤_, _<_, min};
+ghost use lib.Dec.{eqb, leb};
 ghost use lib.ListN.{length};
-ghost use Rattle.apply.specs.Apply.{lists};
+ghost use Rattle.context.specs.Lists.{lists, mapsIn};
+ghost use Rattle.rows.specs.Map.{mapIn};
+ghost use Rattle.text.specs.Hex.{pick};
 ghost use Rattle.text.specs.Put.{Written};
-ghost use Rattle.listing.specs.Listing.{recordLine, refusalLine, shown, listLines, textWith, textOf, roomWith, roomFor, Fitting};
 ghost use Rattle.words.specs.Answer.{Answered};
-ghost use Rattle.listing.specs.Lines.{field, nameOf, markOf, modeOf, restOf, lineOf, linesOf};
-
-// The lists of a listing.
-pub enum Kind {
-    Label,
-    Pool,
-    JumpTable,
-    InlineTable,
-    Call,
-}
+ghost use Rattle.listing.specs.Lines.{field, restOf, lineOf, linesOf};
+ghost use Rattle.listing.specs.Listing.{recordLine, refusalLine, listLines, textWith, shown, textOf, roomWith, roomFor, Fitting};
 
 fn put_field(out: &mut [u8], at: usize, value: u32) -> usize
     requires { ⌜ at + 9 ≤ length (now out) ⌝ }
-    ensures { λ r. ⌜ Written (now (out .entry)) at (field value) r (now (out .exit)) ⌝ }
+    ensures { λ r. ⌜ Written (now (out .entry)) at (field value) r (now (out .exit)) × (r ≡ at + 9) ⌝ }
 {
     let next = text::put_byte(out, at, b' ');
     text::put_hex(out, next, 8, value)
 }
 
-fn put_name(out: &mut [u8], at: usize, kind: Kind) -> usize
-    requires { ⌜ at + 6 ≤ length (now out) ⌝ }
-    ensures { λ r. ⌜ Written (now (out .entry)) at (nameOf kind) r (now (out .exit)) ⌝ }
+// The word that a number stands for: `one` at 1, `other` at any other.
+fn put_word(out: &mut [u8], at: usize, value: u32, one: &[u8], other: &[u8]) -> usize
+    requires { ⌜ (at + 6 ≤ length (now out)) × (length (now one) ≤ 6) × (length (now other) ≤ 6) ⌝ }
+    ensures { λ r. ⌜ Written (now (out .entry)) at (pick (eqb value 1) (now (one .entry)) (now (other .entry))) r (now (out .exit)) × (r ≤ at + 6) ⌝ }
 {
-    match kind {
-        Kind::Label => text::put_bytes(out, at, b"label"),
-        Kind::Pool => text::put_bytes(out, at, b"pool"),
-        Kind::JumpTable => text::put_bytes(out, at, b"jump"),
-        Kind::InlineTable => text::put_bytes(out, at, b"inline"),
-        Kind::Call => text::put_bytes(out, at, b"call"),
+    if value == 1 {
+        return text::put_bytes(out, at, one);
     }
+    text::put_bytes(out, at, other)
 }
 
-fn put_mark(out: &mut [u8], at: usize, mark: u32) -> usize
-    requires { ⌜ at + 6 ≤ length (now out) ⌝ }
-    ensures { λ r. ⌜ Written (now (out .entry)) at (markOf mark) r (now (out .exit)) ⌝ }
-{
-    if mark == 1 {
-        return text::put_bytes(out, at, b" call");
-    }
-    text::put_bytes(out, at, b" other")
-}
-
-fn put_mode(out: &mut [u8], at: usize, mode: u32) -> usize
-    requires { ⌜ at + 6 ≤ length (now out) ⌝ }
-    ensures { λ r. ⌜ Written (now (out .entry)) at (modeOf mode) r (now (out .exit)) ⌝ }
-{
-    if mode == 1 {
-        return text::put_bytes(out, at, b" thumb");
-    }
-    text::put_bytes(out, at, b" arm")
-}
-
-// What follows the address.
-fn put_rest(out: &mut [u8], at: usize, kind: Kind, second: u32, third: u32, fourth: u32) -> usize
+// What follows the address of a row.
+fn put_rest(out: &mut [u8], at: usize, row: &[u32]) -> usize
     requires { ⌜ at + 24 ≤ length (now out) ⌝ }
-    ensures { λ r. ⌜ Written (now (out .entry)) at (restOf kind second third fourth) r (now (out .exit)) ⌝ }
+    ensures { λ r. ⌜ Written (now (out .entry)) at (restOf (now (row .entry))) r (now (out .exit)) × (r ≤ at + 24) ⌝ }
 {
-    match kind {
-        Kind::Label => at,
-        Kind::Pool => {
-            let next = put_field(out, at, second);
-            put_mark(out, next, third)
-        }
-        Kind::JumpTable => put_field(out, at, second),
-        Kind::InlineTable => put_field(out, at, second),
-        Kind::Call => {
-            let next = put_field(out, at, second);
-            let last = put_field(out, next, third);
-            put_mode(out, last, fourth)
-        }
+    let numbers = row.len();
+    if numbers == TABLE_ROW {
+        return put_field(out, at, row[1]);
     }
+    if numbers == POOL_ROW {
+        let next = put_field(out, at, row[1]);
+        return put_word(out, next, row[2], b" call", b" other");
+    }
+    if numbers == CALL_ROW {
+        let next = put_field(out, at, row[1]);
+        let last = put_field(out, next, row[2]);
+        return put_word(out, last, row[3], b" thumb", b" arm");
+    }
+    at
 }
 
-fn put_line(
-    out: &mut [u8],
-    at: usize,
-    kind: Kind,
-    first: u32,
-    second: u32,
-    third: u32,
-    fourth: u32,
-) -> usize
-    requires { ⌜ at + 40 ≤ length (now out) ⌝ }
-    ensures { λ r. ⌜ Written (now (out .entry)) at (lineOf kind first second third fourth) r (now (out .exit)) ⌝ }
+fn put_line(out: &mut [u8], at: usize, name: &[u8], row: &[u32]) -> usize
+    requires { ⌜ (at + 40 ≤ length (now out)) × (length (now name) ≤ 6) × (0 < length (now row)) ⌝ }
+    ensures { λ r. ⌜ Written (now (out .entry)) at (lineOf (now (name .entry)) (now (row .entry))) r (now (out .exit)) × (r ≤ at + 40) ⌝ }
 {
-    let a = put_name(out, at, kind);
-    let b = put_field(out, a, first);
-    let c = put_rest(out, b, kind, second, third, fourth);
+    let a = text::put_bytes(out, at, name);
+    let b = put_field(out, a, row[0]);
+    let c = put_rest(out, b, row);
     text::put_byte(out, c, b'\n')
 }
 
-// The lines of the first `count` entries of a list. A list with fewer columns lends one of them more than once.
+// The lines of a list's first `count` rows.
 fn put_lines(
     out: &mut [u8],
     at: usize,
-    kind: Kind,
-    firsts: &[u32],
-    seconds: &[u32],
-    thirds: &[u32],
-    fourths: &[u32],
+    name: &[u8],
+    list: &[u32],
+    stride: usize,
     count: usize,
 ) -> usize
-    requires { ⌜ (at + 40 * count ≤ length (now out)) × (count ≤ length (now firsts)) × (count ≤ length (now seconds)) × (count ≤ length (now thirds)) × (count ≤ length (now fourths)) ⌝ }
-    ensures { λ r. ⌜ Written (now (out .entry)) at (linesOf kind (now (firsts .entry)) (now (seconds .entry)) (now (thirds .entry)) (now (fourths .entry)) count) r (now (out .exit)) ⌝ }
+    requires { ⌜ (at + 40 * count ≤ length (now out)) × (length (now name) ≤ 6) × (0 < stride) × (count * stride ≤ length (now list)) ⌝ }
+    ensures { λ r. ⌜ Written (now (out .entry)) at (linesOf (now (name .entry)) (mapIn stride count (now (list .entry)))) r (now (out .exit)) × (r ≤ at + 40 * count) ⌝ }
 {
     let mut next = at;
     let mut i = 0;
     while i < count {
-        next = put_line(
-            out,
-            next,
-            kind,
-            firsts[i],
-            seconds[i],
-            thirds[i],
-            fourths[i],
-        );
+        let from = i * stride;
+        let to = from + stride;
+        next = put_line(out, next, name, &list[from..to]);
         i += 1;
     }
     next
@@ -134,7 +93,7 @@ fn put_lines(
 
 fn put_record(out: &mut [u8], at: usize, r: Record) -> usize
     requires { ⌜ at + 45 ≤ length (now out) ⌝ }
-    ensures { λ n. ⌜ Written (now (out .entry)) at (recordLine r) n (now (out .exit)) ⌝ }
+    ensures { λ n. ⌜ Written (now (out .entry)) at (recordLine r) n (now (out .exit)) × (n ≡ at + 45) ⌝ }
 {
     let a = text::put_bytes(out, at, b"function");
     let b = put_field(out, a, r.start);
@@ -160,71 +119,19 @@ fn put_lists(
     at: usize,
     labels: &[u32],
     pools: &[u32],
-    pool_values: &[u32],
-    pool_marks: &[u32],
     jump_tables: &[u32],
-    jump_sizes: &[u32],
     inline_tables: &[u32],
-    inline_sizes: &[u32],
     calls: &[u32],
-    call_words: &[u32],
-    call_destinations: &[u32],
-    call_modes: &[u32],
     n: Counts,
 ) -> usize
-    requires { ⌜ (at + 40 * (n .labels + n .pools + n .«jump_tables» + n .«inline_tables» + n .calls) ≤ length (now out)) × Fitting (lists (now labels) (now pools) (now «pool_values») (now «pool_marks») (now «jump_tables») (now «jump_sizes») (now «inline_tables») (now «inline_sizes») (now calls) (now «call_words») (now «call_destinations») (now «call_modes»)) n ⌝ }
-    ensures { λ r. ⌜ Written (now (out .entry)) at (listLines (lists (now (labels .entry)) (now (pools .entry)) (now («pool_values» .entry)) (now («pool_marks» .entry)) (now («jump_tables» .entry)) (now («jump_sizes» .entry)) (now («inline_tables» .entry)) (now («inline_sizes» .entry)) (now (calls .entry)) (now («call_words» .entry)) (now («call_destinations» .entry)) (now («call_modes» .entry))) n) r (now (out .exit)) ⌝ }
+    requires { ⌜ (at + 40 * (n .labels + n .pools + n .«jump_tables» + n .«inline_tables» + n .calls) ≤ length (now out)) × Fitting (lists (now labels) (now pools) (now «jump_tables») (now «inline_tables») (now calls)) n ⌝ }
+    ensures { λ r. ⌜ Written (now (out .entry)) at (listLines (mapsIn n (lists (now (labels .entry)) (now (pools .entry)) (now («jump_tables» .entry)) (now («inline_tables» .entry)) (now (calls .entry))))) r (now (out .exit)) ⌝ }
 {
-    let a = put_lines(
-        out,
-        at,
-        Kind::Label,
-        labels,
-        labels,
-        labels,
-        labels,
-        n.labels,
-    );
-    let b = put_lines(
-        out,
-        a,
-        Kind::Pool,
-        pools,
-        pool_values,
-        pool_marks,
-        pool_marks,
-        n.pools,
-    );
-    let c = put_lines(
-        out,
-        b,
-        Kind::JumpTable,
-        jump_tables,
-        jump_sizes,
-        jump_tables,
-        jump_tables,
-        n.jump_tables,
-    );
-    let d = put_lines(
-        out,
-        c,
-        Kind::InlineTable,
-        inline_tables,
-        inline_sizes,
-        inline_tables,
-        inline_tables,
-        n.inline_tables,
-    );
-    put_lines(
-        out,
-        d,
-        Kind::Call,
-        calls,
-        call_words,
-        call_destinations,
-        call_modes,
-        n.calls,
-    )
+    let a = put_lines(out, at, b"label", labels, LABEL_ROW, n.labels);
+    let b = put_lines(out, a, b"pool", pools, POOL_ROW, n.pools);
+    let c = put_lines(out, b, b"jump", jump_tables, TABLE_ROW, n.jump_tables);
+    let d = put_lines(out, c, b"inline", inline_tables, TABLE_ROW, n.inline_tables);
+    put_lines(out, d, b"call", calls, CALL_ROW, n.calls)
 }
 
 fn put_answer(
@@ -232,42 +139,19 @@ fn put_answer(
     answer: Answer,
     labels: &[u32],
     pools: &[u32],
-    pool_values: &[u32],
-    pool_marks: &[u32],
     jump_tables: &[u32],
-    jump_sizes: &[u32],
     inline_tables: &[u32],
-    inline_sizes: &[u32],
     calls: &[u32],
-    call_words: &[u32],
-    call_destinations: &[u32],
-    call_modes: &[u32],
     n: Counts,
 ) -> usize
-    requires { ⌜ (roomWith n ≤ length (now out)) × Fitting (lists (now labels) (now pools) (now «pool_values») (now «pool_marks») (now «jump_tables») (now «jump_sizes») (now «inline_tables») (now «inline_sizes») (now calls) (now «call_words») (now «call_destinations») (now «call_modes»)) n ⌝ }
-    ensures { λ r. ⌜ Written (now (out .entry)) 0 (textWith answer (lists (now (labels .entry)) (now (pools .entry)) (now («pool_values» .entry)) (now («pool_marks» .entry)) (now («jump_tables» .entry)) (now («jump_sizes» .entry)) (now («inline_tables» .entry)) (now («inline_sizes» .entry)) (now (calls .entry)) (now («call_words» .entry)) (now («call_destinations» .entry)) (now («call_modes» .entry))) n) r (now (out .exit)) ⌝ }
+    requires { ⌜ (roomWith n ≤ length (now out)) × Fitting (lists (now labels) (now pools) (now «jump_tables») (now «inline_tables») (now calls)) n ⌝ }
+    ensures { λ r. ⌜ Written (now (out .entry)) 0 (textWith answer (mapsIn n (lists (now (labels .entry)) (now (pools .entry)) (now («jump_tables» .entry)) (now («inline_tables» .entry)) (now (calls .entry))))) r (now (out .exit)) ⌝ }
 {
     match answer {
         Answer::Going => 0,
         Answer::Accepted(record) => {
             let at = put_record(out, 0, record);
-            put_lists(
-                out,
-                at,
-                labels,
-                pools,
-                pool_values,
-                pool_marks,
-                jump_tables,
-                jump_sizes,
-                inline_tables,
-                inline_sizes,
-                calls,
-                call_words,
-                call_destinations,
-                call_modes,
-                n,
-            )
+            put_lists(out, at, labels, pools, jump_tables, inline_tables, calls, n)
         }
         Answer::Refused {
             number,
@@ -283,75 +167,35 @@ fn smaller(a: usize, b: usize) -> usize
     if a < b { a } else { b }
 }
 
-// How many entries of each list are shown.
+// How many rows of each list are shown.
 fn shown(
     labels: &[u32],
     pools: &[u32],
-    pool_values: &[u32],
-    pool_marks: &[u32],
     jump_tables: &[u32],
-    jump_sizes: &[u32],
     inline_tables: &[u32],
-    inline_sizes: &[u32],
     calls: &[u32],
-    call_words: &[u32],
-    call_destinations: &[u32],
-    call_modes: &[u32],
     n: Counts,
 ) -> Counts
-    ensures { λ r. ⌜ r ≡ shown (lists (now (labels .entry)) (now (pools .entry)) (now («pool_values» .entry)) (now («pool_marks» .entry)) (now («jump_tables» .entry)) (now («jump_sizes» .entry)) (now («inline_tables» .entry)) (now («inline_sizes» .entry)) (now (calls .entry)) (now («call_words» .entry)) (now («call_destinations» .entry)) (now («call_modes» .entry))) n ⌝ }
+    ensures { λ r. ⌜ r ≡ shown (lists (now (labels .entry)) (now (pools .entry)) (now («jump_tables» .entry)) (now («inline_tables» .entry)) (now (calls .entry))) n ⌝ }
 {
     Counts {
-        labels: smaller(n.labels, labels.len()),
-        pools: smaller(
-            n.pools,
-            smaller(pools.len(), smaller(pool_values.len(), pool_marks.len())),
-        ),
-        jump_tables: smaller(n.jump_tables, smaller(jump_tables.len(), jump_sizes.len())),
-        inline_tables: smaller(
-            n.inline_tables,
-            smaller(inline_tables.len(), inline_sizes.len()),
-        ),
-        calls: smaller(
-            n.calls,
-            smaller(
-                calls.len(),
-                smaller(
-                    call_words.len(),
-                    smaller(call_destinations.len(), call_modes.len()),
-                ),
-            ),
-        ),
+        labels: smaller(n.labels, labels.len() / LABEL_ROW),
+        pools: smaller(n.pools, pools.len() / POOL_ROW),
+        jump_tables: smaller(n.jump_tables, jump_tables.len() / TABLE_ROW),
+        inline_tables: smaller(n.inline_tables, inline_tables.len() / TABLE_ROW),
+        calls: smaller(n.calls, calls.len() / CALL_ROW),
     }
 }
 
-// Whether the buffer is long enough; counted down, since the sum could leave 64 bits.
+// Whether the buffer is long enough. Five lists have fewer than 2^64 rows together, so their sum is taken as it is.
 fn has_room(places: usize, n: Counts) -> bool
+    requires { ⌜ n .labels + n .pools + n .«jump_tables» + n .«inline_tables» + n .calls < 2 ^ 64 ⌝ }
     ensures { λ r. ⌜ r ≡ leb (roomWith n) places ⌝ }
 {
     if places < 45 {
         return false;
     }
-    let lines = (places - 45) / 40;
-    if lines < n.labels {
-        return false;
-    }
-    let a = lines - n.labels;
-    if a < n.pools {
-        return false;
-    }
-    let b = a - n.pools;
-    if b < n.jump_tables {
-        return false;
-    }
-    let c = b - n.jump_tables;
-    if c < n.inline_tables {
-        return false;
-    }
-    if c - n.inline_tables < n.calls {
-        return false;
-    }
-    true
+    n.labels + n.pools + n.jump_tables + n.inline_tables + n.calls <= (places - 45) / 40
 }
 
 // The listing of an answer and its lists, at the start of the buffer.
@@ -360,51 +204,23 @@ pub fn listing(
     answer: Answer,
     labels: &[u32],
     pools: &[u32],
-    pool_values: &[u32],
-    pool_marks: &[u32],
     jump_tables: &[u32],
-    jump_sizes: &[u32],
     inline_tables: &[u32],
-    inline_sizes: &[u32],
     calls: &[u32],
-    call_words: &[u32],
-    call_destinations: &[u32],
-    call_modes: &[u32],
     counts: Counts,
 ) -> words::Answer
-    ensures { λ r. ⌜ Answered (textOf answer (lists (now (labels .entry)) (now (pools .entry)) (now («pool_values» .entry)) (now («pool_marks» .entry)) (now («jump_tables» .entry)) (now («jump_sizes» .entry)) (now («inline_tables» .entry)) (now («inline_sizes» .entry)) (now (calls .entry)) (now («call_words» .entry)) (now («call_destinations» .entry)) (now («call_modes» .entry))) counts) (roomFor (lists (now (labels .entry)) (now (pools .entry)) (now («pool_values» .entry)) (now («pool_marks» .entry)) (now («jump_tables» .entry)) (now («jump_sizes» .entry)) (now («inline_tables» .entry)) (now («inline_sizes» .entry)) (now (calls .entry)) (now («call_words» .entry)) (now («call_destinations» .entry)) (now («call_modes» .entry))) counts) (now (out .entry)) r (now (out .exit)) ⌝ }
+    ensures { λ r. ⌜ Answered (textOf answer (lists (now (labels .entry)) (now (pools .entry)) (now («jump_tables» .entry)) (now («inline_tables» .entry)) (now (calls .entry))) counts) (roomFor (lists (now (labels .entry)) (now (pools .entry)) (now («jump_tables» .entry)) (now («inline_tables» .entry)) (now (calls .entry))) counts) (now (out .entry)) r (now (out .exit)) ⌝ }
 {
-    let n = shown(
-        labels,
-        pools,
-        pool_values,
-        pool_marks,
-        jump_tables,
-        jump_sizes,
-        inline_tables,
-        inline_sizes,
-        calls,
-        call_words,
-        call_destinations,
-        call_modes,
-        counts,
-    );
+    let n = shown(labels, pools, jump_tables, inline_tables, calls, counts);
     if has_room(out.len(), n) {
         return words::Answer::Text(put_answer(
             out,
             answer,
             labels,
             pools,
-            pool_values,
-            pool_marks,
             jump_tables,
-            jump_sizes,
             inline_tables,
-            inline_sizes,
             calls,
-            call_words,
-            call_destinations,
-            call_modes,
             n,
         ));
     }

@@ -5,33 +5,20 @@ ghost use lib.ListN.{length};
 const MOST_INPUTS: usize = 100_000_000;
 
 fn list(input: &[u8]) {
+    // Rows one after another: a pool has three numbers, a table two, a call four.
     let mut labels = [0u32; 1024];
-    let mut pools = [0u32; 1024];
-    let mut pool_values = [0u32; 1024];
-    let mut pool_marks = [0u32; 1024];
-    let mut jump_tables = [0u32; 64];
-    let mut jump_sizes = [0u32; 64];
-    let mut inline_tables = [0u32; 64];
-    let mut inline_sizes = [0u32; 64];
-    let mut calls = [0u32; 1024];
-    let mut call_words = [0u32; 1024];
-    let mut call_destinations = [0u32; 1024];
-    let mut call_modes = [0u32; 1024];
+    let mut pools = [0u32; 3 * 1024];
+    let mut jump_tables = [0u32; 2 * 64];
+    let mut inline_tables = [0u32; 2 * 64];
+    let mut calls = [0u32; 4 * 1024];
     let mut out = [0u8; 128045];
     let answer = finder::list_function(
         input,
         &mut labels[..],
         &mut pools[..],
-        &mut pool_values[..],
-        &mut pool_marks[..],
         &mut jump_tables[..],
-        &mut jump_sizes[..],
         &mut inline_tables[..],
-        &mut inline_sizes[..],
         &mut calls[..],
-        &mut call_words[..],
-        &mut call_destinations[..],
-        &mut call_modes[..],
         &mut out,
     );
     let length = finder::text_length(answer);

@@ -1,2 +1,4 @@
--- The theorem that the definitions give the table.
+-- The theorem that the definitions give the table, and runs of what it leaves out.
+mod Computing
 pub mod MarkedRuns
+pub mod MoreRuns

@@ -1,20 +1,22 @@
 -- Document 01's marked runs, C1 to C12, in its order.
 use Prim.Native.Nat.{ℕ, zero, suc, _/_, _%_}
 use mathlib.Core.Bool.{Bool, true, false}
-use mathlib.Core.List.{List, [], _∷_, map}
+use mathlib.Core.List.{List, [], _∷_}
 use lib.ListN.{length, replicate}
-use Rattle.lists.specs.Rows.{fieldAt, padded}
-use Rattle.apply.specs.Apply.{Lists, lists}
+use Rattle.context.specs.Blocks.{other, call, arm}
+use Rattle.context.specs.Context.{Maps}
+use Rattle.context.specs.Lists.{Lists, lists}
+use Rattle.context.specs.Turn.{countsOf}
+use Rattle.rows.specs.Map.{encode}
+use Rattle.stepper.specs.Calls.{After, begin, step, finish}
 use Rattle.walk.specs.declared.Answer.{Answer}
 use Rattle.walk.specs.declared.Answer.the-variants.{Accepted, Refused}
 use Rattle.walk.specs.declared.Counts.{Counts}
 use Rattle.walk.specs.declared.KnownEnd.{KnownEnd}
 use Rattle.walk.specs.declared.KnownEnd.the-variants.{Nothing, At}
 use Rattle.walk.specs.declared.Options.{Options}
-use Rattle.walk.specs.Edits.{arm}
-use Rattle.functions.specs.Calls.{Run, begin, step, finish}
 
--- a run of the table: its words and options, its answer, and the entries of each list
+-- a run of the table: its words and options, its answer, and the rows of each list
 pub record Marked : Type 0 where
   pub words : List ℕ
   pub base : ℕ
@@ -22,11 +24,7 @@ pub record Marked : Type 0 where
   pub knownEnd : KnownEnd
   pub check : Bool
   pub answer : Answer
-  pub labels : List (List ℕ)
-  pub pools : List (List ℕ)
-  pub jumps : List (List ℕ)
-  pub inlines : List (List ℕ)
-  pub calls : List (List ℕ)
+  pub maps : Maps
 
 abbrev pub run :
     List ℕ → ℕ → ℕ → KnownEnd → Bool → Answer → List (List ℕ) → List (List ℕ) → List (List ℕ) → List (List ℕ) → List (List ℕ) → Marked
@@ -37,23 +35,12 @@ run words base end known check answer labels pools jumps inlines calls = record 
   knownEnd = known;
   check = check;
   answer = answer;
-  labels = labels;
-  pools = pools;
-  jumps = jumps;
-  inlines = inlines;
-  calls = calls;
+  maps = record { labels = labels; pools = pools; «jump_tables» = jumps; «inline_tables» = inlines; calls = calls };
 }
 
 -- a record from the start at 0x02000000, with its end and its last instruction's
 abbrev pub accepted : ℕ → ℕ → Answer
 accepted end last = Accepted (record { start = 0x0200_0000; end = end; «first_instruction» = 0x0200_0000; «last_instruction_end» = last })
-
--- a pool's marks
-abbrev pub other : ℕ
-other = 0
-
-abbrev pub call : ℕ
-call = 1
 
 -- words, base, module end, known end, check, answer; then labels (address), pools (address, value, mark), jump tables and inline tables
 -- (address, size), calls (address, word, destination, mode). A refusal has its number, address and register.
@@ -110,27 +97,30 @@ bytes (w ∷ ws) = w % 0x100 ∷ w / 0x100 % 0x100 ∷ w / 0x1_0000 % 0x100 ∷ 
 abbrev pub optionsOf : Marked → Options
 optionsOf m = record { base = m .base; «module_start» = m .base; «module_end» = m .moduleEnd; «known_end» = m .knownEnd; check = m .check }
 
--- lists of four places, which hold something before the begin
-abbrev pub some : List ℕ
-some = replicate 4 7
+-- so many places in each list, which hold something before the begin, and so do the counts
+abbrev pub places : ℕ → ℕ → ℕ → ℕ → ℕ → Counts
+places labels pools jumps inlines calls = record { labels = labels; pools = pools; «jump_tables» = jumps; «inline_tables» = inlines; calls = calls }
 
-abbrev pub lent : Lists
-lent = lists some some some some some some some some some some some some
+abbrev pub some : ℕ → List ℕ
+some n = replicate n 7
+
+abbrev pub lent : Counts → Lists
+lent n = lists (some (n .labels)) (some (n .pools)) (some (n .«jump_tables»)) (some (n .«inline_tables»)) (some (n .calls))
 
 abbrev pub lentCounts : Counts
 lentCounts = record { labels = 3; pools = 3; «jump_tables» = 3; «inline_tables» = 3; calls = 3 }
 
 -- so many steps
-unfoldable pub steps : ℕ → Options → List ℕ → Run → Run
+unfoldable pub steps : ℕ → Options → List ℕ → After → After
 steps zero o code r = r
-steps (suc n) o code r = steps n o code (step o (r .walk) code [] (r .lists))
+steps (suc n) o code r = steps n o code (step o code [] (r .walk) (r .lists))
 
 -- begin, and one step more than there are words
-abbrev pub begins : Marked → Run
-begins m = begin (optionsOf m) (m .base) (length (bytes (m .words))) [] lentCounts lent
+abbrev pub begins : Counts → Marked → After
+begins n m = begin (optionsOf m) (m .base) (bytes (m .words)) [] lentCounts (lent n)
 
-unfoldable pub ran : Marked → Run
-ran m = steps (suc (length (m .words))) (optionsOf m) (bytes (m .words)) (begins m)
+unfoldable pub ran : Counts → Marked → After
+ran n m = steps (suc (length (m .words))) (optionsOf m) (bytes (m .words)) (begins n m)
 
 -- what is compared: finish's answer, and every list with its count
 pub record Outcome : Type 0 where
@@ -138,28 +128,30 @@ pub record Outcome : Type 0 where
   pub lists : Lists
   pub counts : Counts
 
-abbrev pub outcome : Run → Outcome
+abbrev pub outcome : After → Outcome
 outcome r = record { answer = finish (r .walk); lists = r .lists; counts = r .walk .counts }
 
-unfoldable pub given : Marked → Outcome
-given m = outcome (ran m)
+-- with so many places in each list
+unfoldable pub givenIn : Counts → Marked → Outcome
+givenIn n m = outcome (ran n m)
 
--- a column of the entries' fields, and zeros after them
-abbrev pub column : ℕ → List (List ℕ) → List ℕ
-column j rows = padded 4 (map (fieldAt j) rows)
-
-unfoldable pub expected : Marked → Outcome
-expected m = record {
+-- the rows one after another, and zeros after them
+unfoldable pub expectedIn : Counts → Marked → Outcome
+expectedIn n m = record {
   answer = m .answer;
   lists =
-      lists (column 0 (m .labels)) (column 0 (m .pools)) (column 1 (m .pools)) (column 2 (m .pools))
-      (column 0 (m .jumps)) (column 1 (m .jumps)) (column 0 (m .inlines)) (column 1 (m .inlines))
-      (column 0 (m .calls)) (column 1 (m .calls)) (column 2 (m .calls)) (column 3 (m .calls));
-  counts = record {
-    labels = length (m .labels);
-    pools = length (m .pools);
-    «jump_tables» = length (m .jumps);
-    «inline_tables» = length (m .inlines);
-    calls = length (m .calls);
-  };
+      lists (encode (n .labels) (m .maps .labels)) (encode (n .pools) (m .maps .pools))
+      (encode (n .«jump_tables») (m .maps .«jump_tables»)) (encode (n .«inline_tables») (m .maps .«inline_tables»))
+      (encode (n .calls) (m .maps .calls));
+  counts = countsOf (m .maps);
 }
+
+-- four rows fit each list; three lists have places besides, too few for a row
+abbrev pub fourRows : Counts
+fourRows = places 4 14 9 8 19
+
+abbrev pub given : Marked → Outcome
+given m = givenIn fourRows m
+
+abbrev pub expected : Marked → Outcome
+expected m = expectedIn fourRows m

@@ -13,9 +13,9 @@ pub struct Part {
     pub value: u32,
 }
 
-// The place of a column that gets a value; column 0 is none.
+// The place of a list that gets a value; list 0 is none.
 pub struct Place {
-    pub column: u32,
+    pub list: u32,
     pub at: u32,
     pub value: u32,
 }
@@ -41,7 +41,7 @@ fn place_at(body: &[u8], at: usize) -> Place
     requires { ⌜ at ≤ 0x10_0000 ⌝ }
 {
     Place {
-        column: number(body, at),
+        list: number(body, at),
         at: number(body, at + 4),
         value: number(body, at + 8),
     }
@@ -53,12 +53,12 @@ fn no_turn() -> Turn {
         one: Part { part: 0, value: 0 },
         other: Part { part: 0, value: 0 },
         first: Place {
-            column: 0,
+            list: 0,
             at: 0,
             value: 0,
         },
         second: Place {
-            column: 0,
+            list: 0,
             at: 0,
             value: 0,
         },
@@ -82,93 +82,44 @@ pub fn turn_at(body: &[u8], script: usize, turns: usize, turn: usize) -> Turn
     }
 }
 
-fn put(column: &mut [u32], i: u32, value: u32) {
+fn put(list: &mut [u32], i: u32, value: u32) {
     let at = i as usize;
-    if at < column.len() {
-        column[at] = value;
+    if at < list.len() {
+        list[at] = value;
     }
 }
 
 fn set_place(
     place: Place,
-    labels: &mut [u32; 1024],
-    pools: &mut [u32; 1024],
-    pool_values: &mut [u32; 1024],
-    pool_marks: &mut [u32; 1024],
-    jump_tables: &mut [u32; 64],
-    jump_sizes: &mut [u32; 64],
-    inline_tables: &mut [u32; 64],
-    inline_sizes: &mut [u32; 64],
-    calls: &mut [u32; 1024],
-    call_words: &mut [u32; 1024],
-    call_destinations: &mut [u32; 1024],
-    call_modes: &mut [u32; 1024],
+    labels: &mut [u32],
+    pools: &mut [u32],
+    jump_tables: &mut [u32],
+    inline_tables: &mut [u32],
+    calls: &mut [u32],
 ) {
-    let column = place.column;
-    match column {
+    let list = place.list;
+    match list {
         1 => put(labels, place.at, place.value),
         2 => put(pools, place.at, place.value),
-        3 => put(pool_values, place.at, place.value),
-        4 => put(pool_marks, place.at, place.value),
-        5 => put(jump_tables, place.at, place.value),
-        6 => put(jump_sizes, place.at, place.value),
-        7 => put(inline_tables, place.at, place.value),
-        8 => put(inline_sizes, place.at, place.value),
-        9 => put(calls, place.at, place.value),
-        10 => put(call_words, place.at, place.value),
-        11 => put(call_destinations, place.at, place.value),
-        12 => put(call_modes, place.at, place.value),
+        3 => put(jump_tables, place.at, place.value),
+        4 => put(inline_tables, place.at, place.value),
+        5 => put(calls, place.at, place.value),
         _ => {}
     }
 }
 
 pub fn set_places(
     turn: Turn,
-    labels: &mut [u32; 1024],
-    pools: &mut [u32; 1024],
-    pool_values: &mut [u32; 1024],
-    pool_marks: &mut [u32; 1024],
-    jump_tables: &mut [u32; 64],
-    jump_sizes: &mut [u32; 64],
-    inline_tables: &mut [u32; 64],
-    inline_sizes: &mut [u32; 64],
-    calls: &mut [u32; 1024],
-    call_words: &mut [u32; 1024],
-    call_destinations: &mut [u32; 1024],
-    call_modes: &mut [u32; 1024],
+    labels: &mut [u32],
+    pools: &mut [u32],
+    jump_tables: &mut [u32],
+    inline_tables: &mut [u32],
+    calls: &mut [u32],
 ) {
     let first = turn.first;
-    set_place(
-        first,
-        labels,
-        pools,
-        pool_values,
-        pool_marks,
-        jump_tables,
-        jump_sizes,
-        inline_tables,
-        inline_sizes,
-        calls,
-        call_words,
-        call_destinations,
-        call_modes,
-    );
+    set_place(first, labels, pools, jump_tables, inline_tables, calls);
     let second = turn.second;
-    set_place(
-        second,
-        labels,
-        pools,
-        pool_values,
-        pool_marks,
-        jump_tables,
-        jump_sizes,
-        inline_tables,
-        inline_sizes,
-        calls,
-        call_words,
-        call_destinations,
-        call_modes,
-    );
+    set_place(second, labels, pools, jump_tables, inline_tables, calls);
 }
 
 fn with_progress(given: Progress, part: u32, value: u32) -> Progress {
@@ -227,7 +178,7 @@ fn with_part(given: Walk, change: Part) -> Walk {
 // The state that the step is handed. A finish is written first.
 pub fn prepared(w: Walk, turn: Turn) -> Walk {
     if turn.is_finish {
-        listing::put_finish(functions::finish(w));
+        listing::put_finish(stepper::finish(w));
     }
     let one = turn.one;
     let other = turn.other;

@@ -1,6 +1,9 @@
 // The lines that the program writes.
-use crate::request::Request;
-use functions::Stepped;
+use context::CALL_ROW;
+use context::LABEL_ROW;
+use context::POOL_ROW;
+use context::TABLE_ROW;
+use stepper::Answered;
 use walk::Answer;
 use walk::Counts;
 use walk::Record;
@@ -118,108 +121,86 @@ fn put_call(address: u32, word: u32, destination: u32, mode: u32) {
     io::write_all(1, &line);
 }
 
-fn put_entry(list: u8, a: u32, b: u32, c: u32, d: u32) {
+// A row of list 1 to 5. A list of shorter rows leaves the last numbers alone.
+fn put_row(list: u32, a: u32, b: u32, c: u32, d: u32) {
     match list {
-        0 => put_label(a),
-        1 => put_pool(a, b, c),
-        2 => put_jump(a, b),
-        3 => put_inline(a, b),
+        1 => put_label(a),
+        2 => put_pool(a, b, c),
+        3 => put_jump(a, b),
+        4 => put_inline(a, b),
         _ => put_call(a, b, c, d),
     }
 }
 
-fn at(column: &[u32], i: usize) -> u32 {
-    if i < column.len() {
-        return column[i];
+fn value_at(rows: &[u32], i: usize) -> u32 {
+    if i < rows.len() {
+        return rows[i];
     }
     0
 }
 
-// The entries of a list, but for those that a made-up count has past its places. A list of fewer columns lends some of them again.
-fn put_list(list: u8, a: &[u32], b: &[u32], c: &[u32], d: &[u32], count: usize, places: usize) {
+// The rows of a list, but for those that a made-up count has past its places; and where they end.
+fn put_rows(list: u32, rows: &[u32], stride: usize, count: usize) -> usize
+    requires { ⌜ stride ≤ 4 ⌝ }
+{
+    let mut at = 0;
     let mut i = 0;
     while i < count {
-        if places <= i {
-            return;
+        if rows.len() < at + stride {
+            return at;
         }
-        put_entry(list, at(a, i), at(b, i), at(c, i), at(d, i));
+        put_row(
+            list,
+            value_at(rows, at),
+            value_at(rows, at + 1),
+            value_at(rows, at + 2),
+            value_at(rows, at + 3),
+        );
+        at += stride;
         i += 1;
     }
+    at
 }
 
-fn put_tables(list: u8, tables: &[u32], sizes: &[u32], count: usize, places: usize) {
-    put_list(list, tables, sizes, sizes, sizes, count, places);
-}
-
-fn put_place(column: u32, i: usize, value: u32) {
+fn put_place(list: u32, i: usize, value: u32) {
     let mut line = *b"place 00000000 00000000 00000000\n";
-    text::put_hex(&mut line, 6, 8, column);
+    text::put_hex(&mut line, 6, 8, list);
     text::put_hex(&mut line, 15, 8, (i % 0x1_0000_0000) as u32);
     text::put_hex(&mut line, 24, 8, value);
     io::write_all(1, &line);
 }
 
-// The first place of a column after the count that does not hold zero: a walk leaves none.
-fn put_rest(number: u32, column: &[u32], count: usize, places: usize) {
-    let mut i = count;
-    while i < places {
-        let value = at(column, i);
+// The first place after the rows that does not hold zero: a walk leaves none.
+fn put_rest(list: u32, rows: &[u32], end: usize) {
+    let mut i = end;
+    while i < rows.len() {
+        let value = rows[i];
         if value != 0 {
-            put_place(number, i, value);
+            put_place(list, i, value);
             return;
         }
         i += 1;
     }
 }
 
-// `n` entries in `m` places.
 fn put_lists(
     n: Counts,
-    m: Counts,
-    labels: &[u32; 1024],
-    pools: &[u32; 1024],
-    pool_values: &[u32; 1024],
-    pool_marks: &[u32; 1024],
-    jump_tables: &[u32; 64],
-    jump_sizes: &[u32; 64],
-    inline_tables: &[u32; 64],
-    inline_sizes: &[u32; 64],
-    calls: &[u32; 1024],
-    call_words: &[u32; 1024],
-    call_destinations: &[u32; 1024],
-    call_modes: &[u32; 1024],
+    labels: &[u32],
+    pools: &[u32],
+    jump_tables: &[u32],
+    inline_tables: &[u32],
+    calls: &[u32],
 ) {
-    put_list(0, labels, labels, labels, labels, n.labels, m.labels);
-    put_list(1, pools, pool_values, pool_marks, pools, n.pools, m.pools);
-    put_tables(2, jump_tables, jump_sizes, n.jump_tables, m.jump_tables);
-    put_tables(
-        3,
-        inline_tables,
-        inline_sizes,
-        n.inline_tables,
-        m.inline_tables,
-    );
-    put_list(
-        4,
-        calls,
-        call_words,
-        call_destinations,
-        call_modes,
-        n.calls,
-        m.calls,
-    );
-    put_rest(1, labels, n.labels, m.labels);
-    put_rest(2, pools, n.pools, m.pools);
-    put_rest(3, pool_values, n.pools, m.pools);
-    put_rest(4, pool_marks, n.pools, m.pools);
-    put_rest(5, jump_tables, n.jump_tables, m.jump_tables);
-    put_rest(6, jump_sizes, n.jump_tables, m.jump_tables);
-    put_rest(7, inline_tables, n.inline_tables, m.inline_tables);
-    put_rest(8, inline_sizes, n.inline_tables, m.inline_tables);
-    put_rest(9, calls, n.calls, m.calls);
-    put_rest(10, call_words, n.calls, m.calls);
-    put_rest(11, call_destinations, n.calls, m.calls);
-    put_rest(12, call_modes, n.calls, m.calls);
+    let a = put_rows(1, labels, LABEL_ROW, n.labels);
+    let b = put_rows(2, pools, POOL_ROW, n.pools);
+    let c = put_rows(3, jump_tables, TABLE_ROW, n.jump_tables);
+    let d = put_rows(4, inline_tables, TABLE_ROW, n.inline_tables);
+    let e = put_rows(5, calls, CALL_ROW, n.calls);
+    put_rest(1, labels, a);
+    put_rest(2, pools, b);
+    put_rest(3, jump_tables, c);
+    put_rest(4, inline_tables, d);
+    put_rest(5, calls, e);
 }
 
 fn put_record(record: Record) {
@@ -275,44 +256,21 @@ fn put_answer(answer: Answer, is_full: bool) {
 
 // A begin is written where it is refused.
 pub fn put_begin(
-    r: Request,
-    begun: Stepped,
-    labels: &[u32; 1024],
-    pools: &[u32; 1024],
-    pool_values: &[u32; 1024],
-    pool_marks: &[u32; 1024],
-    jump_tables: &[u32; 64],
-    jump_sizes: &[u32; 64],
-    inline_tables: &[u32; 64],
-    inline_sizes: &[u32; 64],
-    calls: &[u32; 1024],
-    call_words: &[u32; 1024],
-    call_destinations: &[u32; 1024],
-    call_modes: &[u32; 1024],
+    is_full: bool,
+    begun: Answered,
+    labels: &[u32],
+    pools: &[u32],
+    jump_tables: &[u32],
+    inline_tables: &[u32],
+    calls: &[u32],
 ) {
     let answer = begun.answer;
     if is_going(answer) {
         return;
     }
-    put_answer(answer, r.is_full);
+    put_answer(answer, is_full);
     let n = begun.walk.counts;
-    let places = r.places;
-    put_lists(
-        n,
-        places,
-        labels,
-        pools,
-        pool_values,
-        pool_marks,
-        jump_tables,
-        jump_sizes,
-        inline_tables,
-        inline_sizes,
-        calls,
-        call_words,
-        call_destinations,
-        call_modes,
-    );
+    put_lists(n, labels, pools, jump_tables, inline_tables, calls);
 }
 
 fn put_move(before: u32, after: u32) {
@@ -324,22 +282,15 @@ fn put_move(before: u32, after: u32) {
 
 // A step from the address `before`, unless it repeats the end that `said` is.
 pub fn put_step(
-    r: Request,
+    is_full: bool,
     said: Answer,
     before: u32,
-    next: Stepped,
-    labels: &[u32; 1024],
-    pools: &[u32; 1024],
-    pool_values: &[u32; 1024],
-    pool_marks: &[u32; 1024],
-    jump_tables: &[u32; 64],
-    jump_sizes: &[u32; 64],
-    inline_tables: &[u32; 64],
-    inline_sizes: &[u32; 64],
-    calls: &[u32; 1024],
-    call_words: &[u32; 1024],
-    call_destinations: &[u32; 1024],
-    call_modes: &[u32; 1024],
+    next: Answered,
+    labels: &[u32],
+    pools: &[u32],
+    jump_tables: &[u32],
+    inline_tables: &[u32],
+    calls: &[u32],
 ) {
     let answer = next.answer;
     if is_repeated(said, answer) {
@@ -348,26 +299,10 @@ pub fn put_step(
     if is_going(answer) {
         put_move(before, next.walk.progress.address);
     } else {
-        put_answer(answer, r.is_full);
+        put_answer(answer, is_full);
     }
     let n = next.walk.counts;
-    let places = r.places;
-    put_lists(
-        n,
-        places,
-        labels,
-        pools,
-        pool_values,
-        pool_marks,
-        jump_tables,
-        jump_sizes,
-        inline_tables,
-        inline_sizes,
-        calls,
-        call_words,
-        call_destinations,
-        call_modes,
-    );
+    put_lists(n, labels, pools, jump_tables, inline_tables, calls);
 }
 
 pub fn put_finish(answer: Answer) {

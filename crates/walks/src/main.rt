@@ -3,9 +3,9 @@
 //
 // A request is a length of what follows, a version byte, base, module start, module end, start, known end (0: none), a check byte and the
 // code; each number has four bytes, big-endian. Version 2 has a count of existing starts and the starts before the code. Version 3 has after
-// them the places of the five lists, a count of planned turns, and eleven numbers for each turn: finish or not, two parts of the state with a
-// value (0: none), and two places of a column with a value (column 0: none), all handed in before the turn's step. compare/README.md has
-// the numbers of parts and columns, and the lines that are written.
+// them the rows of the five lists, how many numbers more each is lent, a count of planned turns, and eleven numbers for each turn: finish or
+// not, two parts of the state with a value (0: none), and two places of a list with a value (list 0: none), all handed in before the turn's
+// step. compare/README.md has the numbers of parts and lists, and the lines that are written.
 //
 // A run is a begin; the planned turns; steps until one does not go on; one step more; and a finish. These last two are written only where
 // they do not give the end's answer again, so that what is written for versions 1 and 2 is the Rust's own listing.
@@ -14,173 +14,50 @@ mod listing;
 mod request;
 
 use changes::Turn;
-use functions::Stepped;
+use listing::is_going;
 use request::Request;
+use stepper::Answered;
 use walk::Answer;
 use walk::Walk;
-ghost use Prim.Native.Nat.{_≤_};
+ghost use Prim.Native.Nat.{_≤_, _<_};
 
 // More steps than the longest request has bytes.
 const TURNS: usize = 0x1_0100;
 
 const MOST_REQUESTS: usize = 100_000_000;
 
-// A begin that is lent as many places of each list as the request says.
-fn begin_in(
-    r: Request,
-    code: &[u8],
-    starts: &[u32],
-    labels: &mut [u32],
-    pools: &mut [u32],
-    pool_values: &mut [u32],
-    pool_marks: &mut [u32],
-    jump_tables: &mut [u32],
-    jump_sizes: &mut [u32],
-    inline_tables: &mut [u32],
-    inline_sizes: &mut [u32],
-    calls: &mut [u32],
-    call_words: &mut [u32],
-    call_destinations: &mut [u32],
-    call_modes: &mut [u32],
-) -> Stepped {
-    let o = r.options;
-    let places = r.places;
-    let a = request::within(places.labels, labels);
-    let b = request::within(places.pools, pools);
-    let c = request::within(places.pools, pool_values);
-    let d = request::within(places.pools, pool_marks);
-    let e = request::within(places.jump_tables, jump_tables);
-    let f = request::within(places.jump_tables, jump_sizes);
-    let g = request::within(places.inline_tables, inline_tables);
-    let h = request::within(places.inline_tables, inline_sizes);
-    let i = request::within(places.calls, calls);
-    let j = request::within(places.calls, call_words);
-    let k = request::within(places.calls, call_destinations);
-    let l = request::within(places.calls, call_modes);
-    functions::begin(
-        o,
-        r.start,
-        code,
-        starts,
-        &mut labels[..a],
-        &mut pools[..b],
-        &mut pool_values[..c],
-        &mut pool_marks[..d],
-        &mut jump_tables[..e],
-        &mut jump_sizes[..f],
-        &mut inline_tables[..g],
-        &mut inline_sizes[..h],
-        &mut calls[..i],
-        &mut call_words[..j],
-        &mut call_destinations[..k],
-        &mut call_modes[..l],
-        request::some_counts(),
-    )
-}
-
-// A step that is lent the same.
-fn step_in(
-    r: Request,
-    w: Walk,
-    code: &[u8],
-    starts: &[u32],
-    labels: &mut [u32],
-    pools: &mut [u32],
-    pool_values: &mut [u32],
-    pool_marks: &mut [u32],
-    jump_tables: &mut [u32],
-    jump_sizes: &mut [u32],
-    inline_tables: &mut [u32],
-    inline_sizes: &mut [u32],
-    calls: &mut [u32],
-    call_words: &mut [u32],
-    call_destinations: &mut [u32],
-    call_modes: &mut [u32],
-) -> Stepped {
-    let o = r.options;
-    let places = r.places;
-    let a = request::within(places.labels, labels);
-    let b = request::within(places.pools, pools);
-    let c = request::within(places.pools, pool_values);
-    let d = request::within(places.pools, pool_marks);
-    let e = request::within(places.jump_tables, jump_tables);
-    let f = request::within(places.jump_tables, jump_sizes);
-    let g = request::within(places.inline_tables, inline_tables);
-    let h = request::within(places.inline_tables, inline_sizes);
-    let i = request::within(places.calls, calls);
-    let j = request::within(places.calls, call_words);
-    let k = request::within(places.calls, call_destinations);
-    let l = request::within(places.calls, call_modes);
-    functions::step(
-        o,
-        w,
-        code,
-        starts,
-        &mut labels[..a],
-        &mut pools[..b],
-        &mut pool_values[..c],
-        &mut pool_marks[..d],
-        &mut jump_tables[..e],
-        &mut jump_sizes[..f],
-        &mut inline_tables[..g],
-        &mut inline_sizes[..h],
-        &mut calls[..i],
-        &mut call_words[..j],
-        &mut call_destinations[..k],
-        &mut call_modes[..l],
-    )
-}
-
 // A begin, written where it is refused.
 fn begin(
     r: Request,
     code: &[u8],
     starts: &[u32],
-    labels: &mut [u32; 1024],
-    pools: &mut [u32; 1024],
-    pool_values: &mut [u32; 1024],
-    pool_marks: &mut [u32; 1024],
-    jump_tables: &mut [u32; 64],
-    jump_sizes: &mut [u32; 64],
-    inline_tables: &mut [u32; 64],
-    inline_sizes: &mut [u32; 64],
-    calls: &mut [u32; 1024],
-    call_words: &mut [u32; 1024],
-    call_destinations: &mut [u32; 1024],
-    call_modes: &mut [u32; 1024],
+    labels: &mut [u32],
+    pools: &mut [u32],
+    jump_tables: &mut [u32],
+    inline_tables: &mut [u32],
+    calls: &mut [u32],
 ) -> Walk {
-    let begun = begin_in(
-        r,
+    let o = r.options;
+    let begun = stepper::begin(
+        o,
+        r.start,
         code,
         starts,
         labels,
         pools,
-        pool_values,
-        pool_marks,
         jump_tables,
-        jump_sizes,
         inline_tables,
-        inline_sizes,
         calls,
-        call_words,
-        call_destinations,
-        call_modes,
+        request::some_counts(),
     );
     listing::put_begin(
-        r,
+        r.is_full,
         begun,
         labels,
         pools,
-        pool_values,
-        pool_marks,
         jump_tables,
-        jump_sizes,
         inline_tables,
-        inline_sizes,
         calls,
-        call_words,
-        call_destinations,
-        call_modes,
     );
     begun.walk
 }
@@ -192,54 +69,34 @@ fn take_step(
     w: Walk,
     code: &[u8],
     starts: &[u32],
-    labels: &mut [u32; 1024],
-    pools: &mut [u32; 1024],
-    pool_values: &mut [u32; 1024],
-    pool_marks: &mut [u32; 1024],
-    jump_tables: &mut [u32; 64],
-    jump_sizes: &mut [u32; 64],
-    inline_tables: &mut [u32; 64],
-    inline_sizes: &mut [u32; 64],
-    calls: &mut [u32; 1024],
-    call_words: &mut [u32; 1024],
-    call_destinations: &mut [u32; 1024],
-    call_modes: &mut [u32; 1024],
-) -> Stepped {
-    let next = step_in(
-        r,
+    labels: &mut [u32],
+    pools: &mut [u32],
+    jump_tables: &mut [u32],
+    inline_tables: &mut [u32],
+    calls: &mut [u32],
+) -> Answered {
+    let o = r.options;
+    let next = stepper::step(
+        o,
         w,
         code,
         starts,
         labels,
         pools,
-        pool_values,
-        pool_marks,
         jump_tables,
-        jump_sizes,
         inline_tables,
-        inline_sizes,
         calls,
-        call_words,
-        call_destinations,
-        call_modes,
     );
     listing::put_step(
-        r,
+        r.is_full,
         said,
         w.progress.address,
         next,
         labels,
         pools,
-        pool_values,
-        pool_marks,
         jump_tables,
-        jump_sizes,
         inline_tables,
-        inline_sizes,
         calls,
-        call_words,
-        call_destinations,
-        call_modes,
     );
     next
 }
@@ -251,34 +108,13 @@ fn take_turn(
     w: Walk,
     code: &[u8],
     starts: &[u32],
-    labels: &mut [u32; 1024],
-    pools: &mut [u32; 1024],
-    pool_values: &mut [u32; 1024],
-    pool_marks: &mut [u32; 1024],
-    jump_tables: &mut [u32; 64],
-    jump_sizes: &mut [u32; 64],
-    inline_tables: &mut [u32; 64],
-    inline_sizes: &mut [u32; 64],
-    calls: &mut [u32; 1024],
-    call_words: &mut [u32; 1024],
-    call_destinations: &mut [u32; 1024],
-    call_modes: &mut [u32; 1024],
-) -> Stepped {
-    changes::set_places(
-        turn,
-        labels,
-        pools,
-        pool_values,
-        pool_marks,
-        jump_tables,
-        jump_sizes,
-        inline_tables,
-        inline_sizes,
-        calls,
-        call_words,
-        call_destinations,
-        call_modes,
-    );
+    labels: &mut [u32],
+    pools: &mut [u32],
+    jump_tables: &mut [u32],
+    inline_tables: &mut [u32],
+    calls: &mut [u32],
+) -> Answered {
+    changes::set_places(turn, labels, pools, jump_tables, inline_tables, calls);
     take_step(
         r,
         said,
@@ -287,41 +123,58 @@ fn take_turn(
         starts,
         labels,
         pools,
-        pool_values,
-        pool_marks,
         jump_tables,
-        jump_sizes,
         inline_tables,
-        inline_sizes,
         calls,
-        call_words,
-        call_destinations,
-        call_modes,
     )
+}
+
+// The next turn: the planned ones, then steps until one does not go on, then one step more.
+fn following(planned: usize, turn: usize, said: Answer) -> usize
+    requires { ⌜ turn < 0x1_0100 ⌝ }
+    ensures { λ r. ⌜ (turn < r) × (r ≤ 0x1_0100) ⌝ }
+{
+    if planned <= turn {
+        if !is_going(said) {
+            return TURNS;
+        }
+    }
+    turn + 1
+}
+
+// What the steps after the planned ones have come to.
+fn come_to(planned: usize, turn: usize, said: Answer, answer: Answer) -> Answer {
+    if planned <= turn {
+        if is_going(said) {
+            return answer;
+        }
+    }
+    said
 }
 
 fn run(
     body: &[u8],
     r: Request,
-    begun: Walk,
     code: &[u8],
     starts: &[u32],
-    labels: &mut [u32; 1024],
-    pools: &mut [u32; 1024],
-    pool_values: &mut [u32; 1024],
-    pool_marks: &mut [u32; 1024],
-    jump_tables: &mut [u32; 64],
-    jump_sizes: &mut [u32; 64],
-    inline_tables: &mut [u32; 64],
-    inline_sizes: &mut [u32; 64],
-    calls: &mut [u32; 1024],
-    call_words: &mut [u32; 1024],
-    call_destinations: &mut [u32; 1024],
-    call_modes: &mut [u32; 1024],
+    labels: &mut [u32],
+    pools: &mut [u32],
+    jump_tables: &mut [u32],
+    inline_tables: &mut [u32],
+    calls: &mut [u32],
 )
     requires { ⌜ (r .script ≤ 0x1000) × (r .turns ≤ 64) ⌝ }
 {
-    let mut w = begun;
+    let mut w = begin(
+        r,
+        code,
+        starts,
+        labels,
+        pools,
+        jump_tables,
+        inline_tables,
+        calls,
+    );
     let mut said = Answer::Going;
     let mut turn = 0;
     while turn < TURNS {
@@ -334,120 +187,44 @@ fn run(
             starts,
             labels,
             pools,
-            pool_values,
-            pool_marks,
             jump_tables,
-            jump_sizes,
             inline_tables,
-            inline_sizes,
             calls,
-            call_words,
-            call_destinations,
-            call_modes,
         );
         w = next.walk;
-        if r.turns <= turn {
-            if !listing::is_going(said) {
-                break;
-            }
-            said = next.answer;
-        }
-        turn += 1;
+        let after = following(r.turns, turn, said);
+        let answer = next.answer;
+        said = come_to(r.turns, turn, said, answer);
+        turn = after;
     }
-    listing::put_end(functions::finish(w), said);
+    listing::put_end(stepper::finish(w), said);
 }
 
-fn begin_and_run(
-    body: &[u8],
-    r: Request,
-    code: &[u8],
-    starts: &[u32],
-    labels: &mut [u32; 1024],
-    pools: &mut [u32; 1024],
-    pool_values: &mut [u32; 1024],
-    pool_marks: &mut [u32; 1024],
-    jump_tables: &mut [u32; 64],
-    jump_sizes: &mut [u32; 64],
-    inline_tables: &mut [u32; 64],
-    inline_sizes: &mut [u32; 64],
-    calls: &mut [u32; 1024],
-    call_words: &mut [u32; 1024],
-    call_destinations: &mut [u32; 1024],
-    call_modes: &mut [u32; 1024],
-)
-    requires { ⌜ (r .script ≤ 0x1000) × (r .turns ≤ 64) ⌝ }
-{
-    let begun = begin(
-        r,
-        code,
-        starts,
-        labels,
-        pools,
-        pool_values,
-        pool_marks,
-        jump_tables,
-        jump_sizes,
-        inline_tables,
-        inline_sizes,
-        calls,
-        call_words,
-        call_destinations,
-        call_modes,
-    );
-    run(
-        body,
-        r,
-        begun,
-        code,
-        starts,
-        labels,
-        pools,
-        pool_values,
-        pool_marks,
-        jump_tables,
-        jump_sizes,
-        inline_tables,
-        inline_sizes,
-        calls,
-        call_words,
-        call_destinations,
-        call_modes,
-    );
-}
-
-// The lists hold anything at first.
+// The lists hold anything at first, and are lent as far as the request says.
 fn lend(body: &[u8], r: Request, code: &[u8], starts: &[u32])
     requires { ⌜ (r .script ≤ 0x1000) × (r .turns ≤ 64) ⌝ }
 {
+    let lengths = r.lengths;
     let mut labels = [7u32; 1024];
-    let mut pools = [7u32; 1024];
-    let mut pool_values = [7u32; 1024];
-    let mut pool_marks = [7u32; 1024];
-    let mut jump_tables = [7u32; 64];
-    let mut jump_sizes = [7u32; 64];
-    let mut inline_tables = [7u32; 64];
-    let mut inline_sizes = [7u32; 64];
-    let mut calls = [7u32; 1024];
-    let mut call_words = [7u32; 1024];
-    let mut call_destinations = [7u32; 1024];
-    let mut call_modes = [7u32; 1024];
-    begin_and_run(
+    let mut pools = [7u32; 3072];
+    let mut jump_tables = [7u32; 128];
+    let mut inline_tables = [7u32; 128];
+    let mut calls = [7u32; 4096];
+    let a = request::within(lengths.labels, &labels);
+    let b = request::within(lengths.pools, &pools);
+    let c = request::within(lengths.jump_tables, &jump_tables);
+    let d = request::within(lengths.inline_tables, &inline_tables);
+    let e = request::within(lengths.calls, &calls);
+    run(
         body,
         r,
         code,
         starts,
-        &mut labels,
-        &mut pools,
-        &mut pool_values,
-        &mut pool_marks,
-        &mut jump_tables,
-        &mut jump_sizes,
-        &mut inline_tables,
-        &mut inline_sizes,
-        &mut calls,
-        &mut call_words,
-        &mut call_destinations,
-        &mut call_modes,
+        &mut labels[..a],
+        &mut pools[..b],
+        &mut jump_tables[..c],
+        &mut inline_tables[..d],
+        &mut calls[..e],
     );
 }
 

@@ -1,4 +1,8 @@
 // What a request says.
+use context::CALL_ROW;
+use context::LABEL_ROW;
+use context::POOL_ROW;
+use context::TABLE_ROW;
 use walk::Counts;
 use walk::KnownEnd;
 use walk::Options;
@@ -12,14 +16,14 @@ const MOST_TURNS: usize = 64;
 
 pub const TURN_BYTES: usize = 44;
 
-// `starts` existing starts, `places` of each list, `turns` that begin at the byte `script`, and the code from the byte `code` on.
+// `starts` existing starts, `lengths` of the five lists, `turns` that begin at the byte `script`, and the code from the byte `code` on.
 // `is_full` is a request that the Rust cannot be asked.
 pub struct Request {
     pub is_full: bool,
     pub options: Options,
     pub start: u32,
     pub starts: usize,
-    pub places: Counts,
+    pub lengths: Counts,
     pub turns: usize,
     pub script: usize,
     pub code: usize,
@@ -61,14 +65,14 @@ fn least(value: u32, most: usize) -> usize
     most
 }
 
-// A place in a column, or its end. The second fact follows from the first; who lends a part of the column needs both.
-pub fn within(at: usize, column: &[u32]) -> usize
-    ensures { λ r. ⌜ (r ≤ length (now (column .entry))) × (length (take r (now (column .entry))) ≡ r) ⌝ }
+// A place in a list, or its end. The second fact follows from the first; who lends a part of the list needs both.
+pub fn within(at: usize, list: &[u32]) -> usize
+    ensures { λ r. ⌜ (r ≤ length (now (list .entry))) × (length (take r (now (list .entry))) ≡ r) ⌝ }
 {
-    if at < column.len() {
+    if at < list.len() {
         return at;
     }
-    column.len()
+    list.len()
 }
 
 // The same of bytes.
@@ -98,29 +102,32 @@ fn options(body: &[u8]) -> Options {
     }
 }
 
-fn most_places() -> Counts {
+// All that there is of each list.
+fn most_lengths() -> Counts {
     Counts {
-        labels: 1024,
-        pools: 1024,
-        jump_tables: 64,
-        inline_tables: 64,
-        calls: 1024,
+        labels: 1024 * LABEL_ROW,
+        pools: 1024 * POOL_ROW,
+        jump_tables: 64 * TABLE_ROW,
+        inline_tables: 64 * TABLE_ROW,
+        calls: 1024 * CALL_ROW,
     }
 }
 
-fn places_at(body: &[u8], at: usize) -> Counts
+// So many rows of each list, and some numbers more.
+fn lengths_at(body: &[u8], at: usize) -> Counts
     requires { ⌜ at ≤ 0x1000 ⌝ }
 {
+    let more = number(body, at + 20) as usize;
     Counts {
-        labels: number(body, at) as usize,
-        pools: number(body, at + 4) as usize,
-        jump_tables: number(body, at + 8) as usize,
-        inline_tables: number(body, at + 12) as usize,
-        calls: number(body, at + 16) as usize,
+        labels: number(body, at) as usize * LABEL_ROW + more,
+        pools: number(body, at + 4) as usize * POOL_ROW + more,
+        jump_tables: number(body, at + 8) as usize * TABLE_ROW + more,
+        inline_tables: number(body, at + 12) as usize * TABLE_ROW + more,
+        calls: number(body, at + 16) as usize * CALL_ROW + more,
     }
 }
 
-// Versions 1 and 2, as the Rust reads them: no turns, all places.
+// Versions 1 and 2, as the Rust reads them: no turns, lists as long as there are.
 fn plain(body: &[u8], starts: usize, code: usize) -> Request
     requires { ⌜ (starts ≤ 64) × (code ≤ 0x1000) ⌝ }
     ensures { λ r. ⌜ (r .starts ≤ 64) × (r .script ≤ 0x1000) × (r .turns ≤ 64) ⌝ }
@@ -130,7 +137,7 @@ fn plain(body: &[u8], starts: usize, code: usize) -> Request
         options: options(body),
         start: number(body, 13),
         starts,
-        places: most_places(),
+        lengths: most_lengths(),
         turns: 0,
         script: code,
         code,
@@ -149,14 +156,14 @@ pub fn read(body: &[u8]) -> Request
     if version == 2 {
         return plain(body, starts, at);
     }
-    let turns = least(number(body, at + 20), MOST_TURNS);
-    let script = at + 24;
+    let turns = least(number(body, at + 24), MOST_TURNS);
+    let script = at + 28;
     Request {
         is_full: true,
         options: options(body),
         start: number(body, 13),
         starts,
-        places: places_at(body, at),
+        lengths: lengths_at(body, at),
         turns,
         script,
         code: script + TURN_BYTES * turns,

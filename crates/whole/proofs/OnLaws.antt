@@ -1,96 +1,93 @@
--- A walk on the way to its result, step by step.
+-- A walk on the way to its result, turn by turn: what the loop keeps.
 -- Assumes nothing.
-use mathlib.Core.Path.{_≡_, refl, sym, ap, _∙_, subst⁻¹}
+use mathlib.Core.Path.{_≡_, refl, sym, ap, _∙_}
 use mathlib.Core.Bool.{Bool, true, false}
 use mathlib.Core.List.{List}
-use Prim.Native.Nat.{ℕ, suc, _+_, _-_, _^_, _≤_, _<_}
+use Prim.Native.Nat.{ℕ, suc, _-_, _^_, _≤_, _<_}
 use native.Mathlib.Omega.{arith}
 use lib.ListN.{length}
-use Rattle.lists.specs.Place.{pick}
-use Rattle.apply.specs.Apply.{Lists}
-use Rattle.functions.specs.Calls.{numberAt}
-use Rattle.functions.proofs.CallLaws.{window-end}
-use Rattle.stepping.specs.Outcome.{isGoing}
-use Rattle.stepping.specs.Stepping.{State, Walked, walked}
-use Rattle.steps.specs.Walks.{walkedOn}
-use Rattle.steps.proofs.CheckLaws.{Passed, number-passed, passed-number}
-use Rattle.steps.proofs.EndingLaws.{one-more, ended-stays, stays, fit-after, going-within}
-use Rattle.steps.proofs.StepLaws.{walked-moves}
+use Rattle.base.specs.Choice.{pick}
+use Rattle.context.specs.Context.{Given}
+use Rattle.context.specs.Lists.{Lists, AllHeld, mapsIn, placesOf, givenBy}
+use Rattle.context.specs.Turn.{Turned, turn}
+use Rattle.invariants.specs.Turns.{turnsFrom}
+use Rattle.invariants.proofs.EndingLaws.{one-more, stays, going-within}
+use Rattle.invariants.proofs.StepLaws.{same-given}
+use Rattle.invariants.proofs.TurnLaws.{turn-past}
+use Rattle.stepper.specs.Calls.{isGoing}
+use Rattle.turn.specs.Turning.{Turns}
 use Rattle.walk.specs.declared.Answer.{Answer}
 use Rattle.walk.specs.declared.Options.{Options}
 use Rattle.walk.specs.declared.Walk.{Walk}
 
-abbrev pub state : Walk → Lists → State
-state w l = record { walk = w; lists = l }
+-- a walk, with the maps in its lists
+abbrev pub held : Walk → Lists → Turned
+held w l = record { walk = w; maps = mapsIn (w .counts) l }
 
--- so many steps have led from one state to another
-pub record On (o : Options) (code starts : List ℕ) (s t : State) : Type 0 where
-  pub steps : ℕ
-  pub is : t ≡ walkedOn o code starts steps s
-  pub few : steps ≤ suc (length code)
-
-same : (w : Walk) (l : Lists) {x : State} → Walked w l x → state w l ≡ x
-same w l k = rw (k .goes, k .holds)
+abbrev goesOn : Turned → Bool
+goesOn t = isGoing (t .walk .result)
 
 -- what is left of a walk: nothing once it has a result
 abbrev pub left : Answer → ℕ → ℕ
 left result address = pick (isGoing result) (suc (2 ^ 32 - address)) 0
 
-module _ (o : Options) (code starts : List ℕ) (s : State) (number : numberAt o (s .walk) code starts (s .lists) ≡ 0) where
-  pub on-start : On o code starts s s
-  unfolding walkedOn
-  on-start = record { steps = 0; is = refl; few = omega arith }
+module _ (o : Options) (code starts : List ℕ) (w : Walk) (l : Lists) where
+  abbrev given : Given
+  given = givenBy o code starts l
 
-  module _ (t : State) (on : On o code starts s t) (going : isGoing (t .walk .result) ≡ true) where
-    -- it was going from the start
-    began : isGoing (s .walk .result) ≡ true
-    began = go (isGoing (s .walk .result)) refl
-      where
-        go : (b : Bool) → isGoing (s .walk .result) ≡ b → isGoing (s .walk .result) ≡ true
-        go true e = e
-        go false e =
-            let same : isGoing (t .walk .result) ≡ isGoing (s .walk .result) =
-            ap (λ (x : State). isGoing (x .walk .result)) (on .is ∙ ended-stays o code starts (on .steps) s e) in
-            absurd (let z : _≡_ {A = ℕ} 0 1 = cc in omega arith)
+  -- the walk after so many turns
+  abbrev after : ℕ → Turned
+  after n = turnsFrom given n (held w l)
 
-    going-now : isGoing (walkedOn o code starts (on .steps) s .walk .result) ≡ true
-    going-now = ap (λ (x : State). isGoing (x .walk .result)) (sym (on .is)) ∙ going
+  -- so many have led here
+  pub record On (here : Walk) (k : Lists) : Type 0 where
+    pub turns : ℕ
+    pub few : turns ≤ suc (length code)
+    pub is : held here k ≡ after turns
+    pub holds : AllHeld (here .counts) k
+    pub places : placesOf k ≡ placesOf l
 
-    fit : Passed o (t .walk) code starts (t .lists)
-    fit =
-        subst⁻¹ (λ (x : State). Passed o (x .walk) code starts (x .lists)) (on .is)
-        (fit-after o code starts (on .steps) s began (number-passed o (s .walk) code starts (s .lists) number) going-now)
+  pub on-start : AllHeld (w .counts) l → On w l
+  unfolding turnsFrom
+  on-start h = record { turns = 0; few = omega arith; is = refl; holds = h; places = refl }
 
-    pub on-window : o .base + length code ≤ 0x0300_0000
-    on-window = window-end o (length code) (fit .window)
+  module _ (here : Walk) (k : Lists) (on : On here k) where
+    pub on-end : isGoing (here .result) ≡ false → Turns here l k (turnsFrom given (suc (length code)) (held w l))
+    on-end off =
+        let ended : goesOn (after (on .turns)) ≡ false = ap goesOn (sym (on .is)) ∙ off in
+        let all : held here k ≡ after (suc (length code)) = on .is ∙ sym (stays given (on .turns) (suc (length code)) (held w l) (on .few) ended) in
+        record { walks = ap (λ (t : Turned). t .walk) all; held = on .holds; places = on .places; maps = ap (λ (t : Turned). t .maps) all }
 
-    pub on-more : (w : Walk) (l : Lists) → Walked w l (walked o (t .walk) code starts (t .lists)) → On o code starts s (state w l)
-    on-more w l k = record {
-      steps = suc (on .steps);
-      is =
-          same w l k
-          ∙ ap (λ (x : State). walked o (x .walk) code starts (x .lists)) (on .is)
-          ∙ sym (one-more o code starts (on .steps) s going-now);
-      few =
-          let n : on .steps ≤ length code = going-within o code starts (on .steps) s began (number-passed o (s .walk) code starts (s .lists) number) going-now in
-          omega arith;
-    }
+    abbrev turned : Given → Turned
+    turned g = turn g here (mapsIn (here .counts) k)
 
-    pub on-less : (w : Walk) (l : Lists) → Walked w l (walked o (t .walk) code starts (t .lists)) → w .progress .address < 2 ^ 32
-        → left (w .result) (w .progress .address) < left (t .walk .result) (t .walk .progress .address)
-    on-less w l k small = rw going (go (isGoing (w .result)) refl)
-      where
-        go : (b : Bool) → isGoing (w .result) ≡ b → pick b (suc (2 ^ 32 - w .progress .address)) 0 < suc (2 ^ 32 - t .walk .progress .address)
-        go false e = omega arith
-        go true e =
-            let is = k .goes in
-            let past = walked-moves o (t .walk) code starts (t .lists) (passed-number o (t .walk) code starts (t .lists) fit) (ap (λ (x : Walk). isGoing (x .result)) (sym is) ∙ e) in
-            let same : w .progress .address ≡ walked o (t .walk) code starts (t .lists) .walk .progress .address = ap (λ (x : Walk). x .progress .address) is in
-            omega arith
+    module _ (going : isGoing (here .result) ≡ true) (r : Walk) (m : Lists) (next : Turns r k m (turned (givenBy o code starts k))) where
+      -- the lists have the places that they had
+      taken : turned (givenBy o code starts k) ≡ turned given
+      taken = ap turned (same-given k l (on .places) o code starts)
 
-  pub on-end : (w : Walk) (l : Lists) → On o code starts s (state w l) → isGoing (w .result) ≡ false → Walked w l (walkedOn o code starts (suc (length code)) s)
-  on-end w l on off =
-      let ended : isGoing (walkedOn o code starts (on .steps) s .walk .result) ≡ false = ap (λ (x : State). isGoing (x .walk .result)) (sym (on .is)) ∙ off in
-      let all : walkedOn o code starts (suc (length code)) s ≡ walkedOn o code starts (on .steps) s = stays o code starts (on .steps) (suc (length code)) s (on .few) ended in
-      let same : state w l ≡ walkedOn o code starts (suc (length code)) s = on .is ∙ sym all in
-      record { goes = ap (λ (x : State). x .walk) same; holds = ap (λ (x : State). x .lists) same }
+      pub on-more : On r m
+      on-more =
+          let still : goesOn (after (on .turns)) ≡ true = ap goesOn (sym (on .is)) ∙ going in
+          let within = going-within given (on .turns) (held w l) still in
+          let one : held r m ≡ turned (givenBy o code starts k) = rw (next .maps, next .walks) in
+          record {
+            turns = suc (on .turns);
+            few = omega arith;
+            is =
+                one ∙ taken ∙ ap (λ (t : Turned). turn given (t .walk) (t .maps)) (on .is)
+                ∙ sym (one-more given (on .turns) (held w l) still);
+            holds = next .held;
+            places = next .places ∙ on .places;
+          }
+
+      pub on-less : r .progress .address < 2 ^ 32 → left (r .result) (r .progress .address) < left (here .result) (here .progress .address)
+      on-less small = rw going (step (isGoing (r .result)) refl)
+        where
+          step : (b : Bool) → isGoing (r .result) ≡ b → pick b (suc (2 ^ 32 - r .progress .address)) 0 < suc (2 ^ 32 - here .progress .address)
+          step false e = omega arith
+          step true e =
+              let same : r ≡ turned given .walk = next .walks ∙ ap (λ (t : Turned). t .walk) taken in
+              let past = turn-past given here (mapsIn (here .counts) k) (ap (λ (x : Walk). isGoing (x .result)) (sym same) ∙ e) in
+              let at : r .progress .address ≡ turned given .walk .progress .address = ap (λ (x : Walk). x .progress .address) same in
+              omega arith

@@ -12,27 +12,47 @@ pub struct Options {
     pub check: bool,
 }
 
-/// The lists that a walk fills, ascending by address, with zeros after the last entry. The lists of one group are columns of one list, whose
-/// room is the shortest. The default has no room.
+/// A pool word.
+#[repr(C)]
+#[derive(Clone, Copy, Debug, Default, PartialEq, Eq)]
+pub struct Pool {
+    pub address: u32,
+    pub value: u32,
+    /// 1 for one that is called, else 0.
+    pub mark: u32,
+}
+
+/// A jump table or an inline table.
+#[repr(C)]
+#[derive(Clone, Copy, Debug, Default, PartialEq, Eq)]
+pub struct Table {
+    pub address: u32,
+    /// In bytes.
+    pub size: u32,
+}
+
+#[repr(C)]
+#[derive(Clone, Copy, Debug, Default, PartialEq, Eq)]
+pub struct Call {
+    pub address: u32,
+    /// The instruction.
+    pub word: u32,
+    pub destination: u32,
+    /// 0 for ARM, 1 for Thumb.
+    pub mode: u32,
+}
+
+/// The lists that a walk fills, ascending by address, with zeros after the last row. The default has no room.
 #[derive(Debug, Default)]
 pub struct Lists<'a> {
     pub labels: &'a mut [u32],
-    pub pools: &'a mut [u32],
-    pub pool_values: &'a mut [u32],
-    /// 1 for a pool word that is called, else 0.
-    pub pool_marks: &'a mut [u32],
-    pub jump_tables: &'a mut [u32],
-    pub jump_sizes: &'a mut [u32],
-    pub inline_tables: &'a mut [u32],
-    pub inline_sizes: &'a mut [u32],
-    pub calls: &'a mut [u32],
-    pub call_words: &'a mut [u32],
-    pub call_destinations: &'a mut [u32],
-    /// 0 for ARM, 1 for Thumb.
-    pub call_modes: &'a mut [u32],
+    pub pools: &'a mut [Pool],
+    pub jump_tables: &'a mut [Table],
+    pub inline_tables: &'a mut [Table],
+    pub calls: &'a mut [Call],
 }
 
-/// The entries of each list.
+/// The rows of each list.
 #[derive(Clone, Copy, Debug, PartialEq, Eq)]
 pub struct Counts {
     pub labels: usize,
@@ -89,43 +109,40 @@ unsafe extern "C" {
         starts: *const u32, starts_length: usize,
         labels: *mut u32, labels_length: usize,
         pools: *mut u32, pools_length: usize,
-        pool_values: *mut u32, pool_values_length: usize,
-        pool_marks: *mut u32, pool_marks_length: usize,
         jump_tables: *mut u32, jump_tables_length: usize,
-        jump_sizes: *mut u32, jump_sizes_length: usize,
         inline_tables: *mut u32, inline_tables_length: usize,
-        inline_sizes: *mut u32, inline_sizes_length: usize,
         calls: *mut u32, calls_length: usize,
-        call_words: *mut u32, call_words_length: usize,
-        call_destinations: *mut u32, call_destinations_length: usize,
-        call_modes: *mut u32, call_modes_length: usize,
         answer: *mut Answer,
     ) -> u32;
+}
+
+/// A list's numbers, one row after another, and how many: a row is nothing but numbers of 32 bits.
+fn numbers<Row>(rows: &mut [Row]) -> (*mut u32, usize) {
+    (rows.as_mut_ptr().cast(), size_of_val(rows) / size_of::<u32>())
 }
 
 /// Walks one ARM function from `start`. `starts` are those of other functions, strictly ascending.
 #[rustfmt::skip]
 pub fn run(options: Options, start: u32, code: &[u8], starts: &[u32], lists: &mut Lists) -> Result<Function, Refusal> {
+    let (labels, labels_length) = numbers(lists.labels);
+    let (pools, pools_length) = numbers(lists.pools);
+    let (jump_tables, jump_tables_length) = numbers(lists.jump_tables);
+    let (inline_tables, inline_tables_length) = numbers(lists.inline_tables);
+    let (calls, calls_length) = numbers(lists.calls);
     let mut answer = Answer::default();
-    // SAFETY: each pointer and length is that of a slice, so it is no null pointer, and no two slices that are written overlap.
+    // SAFETY: each pointer and length is that of a slice, so it is no null pointer, and no two slices that are written overlap. A row is
+    // `repr(C)` and of `u32` alone, so it is as aligned as one and has no padding.
     let number = unsafe {
         cugbejin_run(
             options.base, options.module_start, options.module_end, start,
             u32::from(options.known_end.is_some()), options.known_end.unwrap_or(0), u32::from(options.check),
             code.as_ptr(), code.len(),
             starts.as_ptr(), starts.len(),
-            lists.labels.as_mut_ptr(), lists.labels.len(),
-            lists.pools.as_mut_ptr(), lists.pools.len(),
-            lists.pool_values.as_mut_ptr(), lists.pool_values.len(),
-            lists.pool_marks.as_mut_ptr(), lists.pool_marks.len(),
-            lists.jump_tables.as_mut_ptr(), lists.jump_tables.len(),
-            lists.jump_sizes.as_mut_ptr(), lists.jump_sizes.len(),
-            lists.inline_tables.as_mut_ptr(), lists.inline_tables.len(),
-            lists.inline_sizes.as_mut_ptr(), lists.inline_sizes.len(),
-            lists.calls.as_mut_ptr(), lists.calls.len(),
-            lists.call_words.as_mut_ptr(), lists.call_words.len(),
-            lists.call_destinations.as_mut_ptr(), lists.call_destinations.len(),
-            lists.call_modes.as_mut_ptr(), lists.call_modes.len(),
+            labels, labels_length,
+            pools, pools_length,
+            jump_tables, jump_tables_length,
+            inline_tables, inline_tables_length,
+            calls, calls_length,
             &mut answer,
         )
     };

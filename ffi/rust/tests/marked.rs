@@ -1,5 +1,5 @@
 //! Walks document 01's marked runs C1 to C12, and its examples of the refusals 1 to 4 and 13. What is expected is typed from 01's tables.
-use cugbejin::{Counts, Function, Lists, Options, Refusal, run};
+use cugbejin::{Call, Counts, Function, Lists, Options, Pool, Refusal, Table, run};
 
 const BASE: u32 = 0x0200_0000;
 const LOW: u32 = 0x01FF_8000;
@@ -11,42 +11,37 @@ const C3: &[u32] = &[0xE12F_FF1E];
 const C8: &[u32] = &[0xE350_0002, 0x908F_F100, 0xEA00_0002, 0xEA00_0001, 0xEA00_0000, 0xEAFF_FFFF, 0xE12F_FF1E];
 const C12: &[u32] = &[0xE1A0_0004, 0xE12F_FF1E];
 
-type Column = [u32; PLACES];
 type Answer = Result<Function, Refusal>;
 
 #[derive(Clone, Copy, Debug, Default, PartialEq)]
-struct Columns {
-    labels: Column,
-    pools: [Column; 3],
-    jump_tables: [Column; 2],
-    inline_tables: [Column; 2],
-    calls: [Column; 4],
+struct Rows {
+    labels: [u32; PLACES],
+    pools: [Pool; PLACES],
+    jump_tables: [Table; PLACES],
+    inline_tables: [Table; PLACES],
+    calls: [Call; PLACES],
 }
 
-impl Columns {
-    fn of(value: u32) -> Self {
-        let c = [value; PLACES];
-        Columns { labels: c, pools: [c; 3], jump_tables: [c; 2], inline_tables: [c; 2], calls: [c; 4] }
+impl Rows {
+    /// What stands in the lists before a walk.
+    fn before() -> Self {
+        let table = Table { address: ANYTHING, size: ANYTHING };
+        Rows {
+            labels: [ANYTHING; PLACES],
+            pools: [Pool { address: ANYTHING, value: ANYTHING, mark: ANYTHING }; PLACES],
+            jump_tables: [table; PLACES],
+            inline_tables: [table; PLACES],
+            calls: [Call { address: ANYTHING, word: ANYTHING, destination: ANYTHING, mode: ANYTHING }; PLACES],
+        }
     }
 
     fn lend(&mut self, label_places: usize) -> Lists<'_> {
-        let [pools, pool_values, pool_marks] = &mut self.pools;
-        let [jump_tables, jump_sizes] = &mut self.jump_tables;
-        let [inline_tables, inline_sizes] = &mut self.inline_tables;
-        let [calls, call_words, call_destinations, call_modes] = &mut self.calls;
         Lists {
             labels: &mut self.labels[..label_places],
-            pools,
-            pool_values,
-            pool_marks,
-            jump_tables,
-            jump_sizes,
-            inline_tables,
-            inline_sizes,
-            calls,
-            call_words,
-            call_destinations,
-            call_modes,
+            pools: &mut self.pools,
+            jump_tables: &mut self.jump_tables,
+            inline_tables: &mut self.inline_tables,
+            calls: &mut self.calls,
         }
     }
 }
@@ -56,15 +51,15 @@ fn options(base: u32, words: &[u32]) -> Options {
     Options { base, module_start: base, module_end: base + 4 * words.len() as u32, known_end: None, check: false }
 }
 
-fn walk(options: Options, start: u32, words: &[u32], starts: &[u32], label_places: usize) -> (Answer, Columns) {
+fn walk(options: Options, start: u32, words: &[u32], starts: &[u32], label_places: usize) -> (Answer, Rows) {
     let code: Vec<u8> = words.iter().flat_map(|word| word.to_le_bytes()).collect();
-    let mut columns = Columns::of(ANYTHING);
-    let answer = run(options, start, &code, starts, &mut columns.lend(label_places));
-    (answer, columns)
+    let mut rows = Rows::before();
+    let answer = run(options, start, &code, starts, &mut rows.lend(label_places));
+    (answer, rows)
 }
 
 /// From the base, with no other starts.
-fn whole(options: Options, words: &[u32]) -> (Answer, Columns) {
+fn whole(options: Options, words: &[u32]) -> (Answer, Rows) {
     walk(options, options.base, words, &[], PLACES)
 }
 
@@ -73,24 +68,26 @@ fn function(end: u32, last: u32) -> Function {
     Function { start: BASE, end: BASE + end, first_instruction: BASE, last_instruction_end: BASE + last, counts }
 }
 
-fn refused(number: u32, address: u32, register: u32) -> (Answer, Columns) {
-    (Err(Refusal { number, address, register }), Columns::default())
+fn refused(number: u32, address: u32, register: u32) -> (Answer, Rows) {
+    (Err(Refusal { number, address, register }), Rows::default())
 }
 
 /// A function without entries.
-fn bare(end: u32, last: u32) -> (Answer, Columns) {
-    (Ok(function(end, last)), Columns::default())
+fn bare(end: u32, last: u32) -> (Answer, Rows) {
+    (Ok(function(end, last)), Rows::default())
 }
 
-/// One entry, at the first place of its columns.
-fn entry<const N: usize>(fields: [u32; N]) -> [Column; N] {
-    fields.map(|field| [field, 0, 0, 0])
+/// One row, and zeros after it.
+fn one<Row: Copy + Default>(row: Row) -> [Row; PLACES] {
+    let mut rows = [Row::default(); PLACES];
+    rows[0] = row;
+    rows
 }
 
-fn one_pool(value: u32, mark: u32) -> (Answer, Columns) {
+fn one_pool(value: u32, mark: u32) -> (Answer, Rows) {
     let f = function(0x0C, 0x08);
     let found = Function { counts: Counts { pools: 1, ..f.counts }, ..f };
-    (Ok(found), Columns { pools: entry([BASE + 0x08, value, mark]), ..Columns::default() })
+    (Ok(found), Rows { pools: one(Pool { address: BASE + 0x08, value, mark }), ..Rows::default() })
 }
 
 #[test]
@@ -130,17 +127,17 @@ fn c7_a_call() {
     let words = &[0xEA00_003E, 0xE12F_FF1E];
     let f = function(0x08, 0x08);
     let found = Function { counts: Counts { calls: 1, ..f.counts }, ..f };
-    let columns = Columns { calls: entry([BASE, 0xEA00_003E, BASE + 0x100, 0]), ..Columns::default() };
-    assert_eq!(whole(options(BASE, words), words), (Ok(found), columns));
+    let call = Call { address: BASE, word: 0xEA00_003E, destination: BASE + 0x100, mode: 0 };
+    assert_eq!(whole(options(BASE, words), words), (Ok(found), Rows { calls: one(call), ..Rows::default() }));
 }
 
 #[test]
 fn c8_a_jump_table() {
     let f = function(0x1C, 0x1C);
     let found = Function { counts: Counts { labels: 1, jump_tables: 1, ..f.counts }, ..f };
-    let [labels] = entry([BASE + 0x18]);
-    let columns = Columns { labels, jump_tables: entry([BASE + 0x0C, 12]), ..Columns::default() };
-    assert_eq!(whole(options(BASE, C8), C8), (Ok(found), columns));
+    let table = Table { address: BASE + 0x0C, size: 12 };
+    let rows = Rows { labels: one(BASE + 0x18), jump_tables: one(table), ..Rows::default() };
+    assert_eq!(whole(options(BASE, C8), C8), (Ok(found), rows));
 }
 
 #[test]
@@ -170,7 +167,7 @@ fn c12_an_undefined_register() {
 /// 1 to 4 leave the lists as they were.
 #[test]
 fn refusals_before_the_walk() {
-    let kept = |number| (Err(Refusal { number, address: 0, register: 0 }), Columns::of(ANYTHING));
+    let kept = |number| (Err(Refusal { number, address: 0, register: 0 }), Rows::before());
     assert_eq!(whole(options(LOW - 4, C3), C3), kept(1));
     assert_eq!(walk(options(BASE, C3), BASE + 0x08, C3, &[], PLACES), kept(2));
     assert_eq!(walk(options(BASE, C3), BASE + 0x02, C3, &[], PLACES), kept(3));
@@ -180,9 +177,9 @@ fn refusals_before_the_walk() {
 /// C8 whose first branch, at 08, finds no place for its label. The other lists hold zeros; what lies past the empty one is not touched.
 #[test]
 fn refusal_13_zeroes_the_lists() {
-    let (answer, columns) = walk(options(BASE, C8), BASE, C8, &[], 0);
+    let (answer, rows) = walk(options(BASE, C8), BASE, C8, &[], 0);
     assert_eq!(answer, Err(Refusal { number: 13, address: BASE + 0x08, register: 0 }));
-    assert_eq!(columns, Columns { labels: [ANYTHING; PLACES], ..Columns::default() });
+    assert_eq!(rows, Rows { labels: [ANYTHING; PLACES], ..Rows::default() });
 }
 
 /// Empty slices, whose pointers dangle.

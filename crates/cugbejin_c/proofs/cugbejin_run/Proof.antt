@@ -1,7 +1,7 @@
 -- `cugbejin_run` meets its contract.
 -- Assumes nothing.
-use borrow.Author.Needs.{needs}
 use Rattle.cugbejin_c.proofs.ToldLaws.{told}
+use borrow.Author.Needs.{needs}
 use Rattle.cugbejin_c.proofs.cugbejin_run.Statement.{statement}
 use Rattle.cugbejin_c.proofs.cugbejin_run.Tie as tie
 
@@ -41,36 +41,8 @@ same-length-4 c = search needs
 same-length-5 : tie.Need-same-length-5
 same-length-5 c = search needs
 
-same-length-6 : tie.Need-same-length-6
-same-length-6 c = search needs
-
-same-length-7 : tie.Need-same-length-7
-same-length-7 c = search needs
-
-same-length-8 : tie.Need-same-length-8
-same-length-8 c = search needs
-
-same-length-9 : tie.Need-same-length-9
-same-length-9 c = search needs
-
-same-length-10 : tie.Need-same-length-10
-same-length-10 c = search needs
-
-same-length-11 : tie.Need-same-length-11
-same-length-11 c = search needs
-
-same-length-12 : tie.Need-same-length-12
-same-length-12 c = search needs
-
 returns : tie.Need-returns
-returns c =
-    told _ _ _ _ _ _ _ _ _ _ _ _
-    (c .before .before .before .before .before .before .before .before .before .before .before .before .before .before .before .before .before .before .before .before .before .before .before .before .before .before .before .before .before .before .before .before .before .before .before .before .before .before .before .before .before .before .options-from .ensures)
-    (c .before .before .before .before .before .before .before .before .before .before .before .before .before .before .before .before .before .before .before .before .before .before .before .before .before .before .before .before .before .no-counts .ensures)
-    (c .before .before .before .before .before .before .before .before .before .before .before .before .before .before .before .before .before .before .before .before .before .before .before .before .before .before .before .before .run .ensures)
-    (c .before .before .record-of .ensures)
-    (c .before .numbers-of .ensures)
-    (c .number .ensures)
+returns c = told _ _ _ _ _ _ _ _ _ _ _ _ (c .before .before .before .before .before .before .before .before .before .before .before .before .before .before .before .before .before .before .before .before .before .options-from .ensures) (c .before .before .before .before .before .before .before .before .before .before .before .before .before .before .before .no-counts .ensures) (c .before .before .before .before .before .before .before .before .before .before .before .before .before .before .run .ensures) (c .before .before .record-of .ensures) (c .before .numbers-of .ensures) (c .number .ensures)
 
 pub cugbejin-run-spec : {M : Type 1} → statement M
 cugbejin-run-spec =
@@ -88,11 +60,4 @@ cugbejin-run-spec =
     same-length-3
     same-length-4
     same-length-5
-    same-length-6
-    same-length-7
-    same-length-8
-    same-length-9
-    same-length-10
-    same-length-11
-    same-length-12
     returns)

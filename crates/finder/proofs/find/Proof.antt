@@ -1,10 +1,10 @@
 -- `find` meets its contract: by which of the two a parsed input is.
 -- Assumes nothing.
 use mathlib.Core.Path.{sym, _∙_}
-use borrow.Author.Needs.{needs}
 use borrow.Rule.Slice.PartAt.{part-to-end}
 use Rattle.request.proofs.RequestLaws.{asked-length}
 use Rattle.finder.proofs.FinderLaws.{asked-finds, refused-finds}
+use borrow.Author.Needs.{needs}
 use Rattle.finder.proofs.find.Statement.{statement}
 use Rattle.finder.proofs.find.Tie as tie
 
@@ -47,29 +47,8 @@ same-length-4 c = search needs
 same-length-5 : tie.Need-same-length-5
 same-length-5 c = search needs
 
-same-length-6 : tie.Need-same-length-6
-same-length-6 c = search needs
-
-same-length-7 : tie.Need-same-length-7
-same-length-7 c = search needs
-
-same-length-8 : tie.Need-same-length-8
-same-length-8 c = search needs
-
-same-length-9 : tie.Need-same-length-9
-same-length-9 c = search needs
-
-same-length-10 : tie.Need-same-length-10
-same-length-10 c = search needs
-
-same-length-11 : tie.Need-same-length-11
-same-length-11 c = search needs
-
-same-length-12 : tie.Need-same-length-12
-same-length-12 c = search needs
-
 returns : tie.Need-returns
-returns c = asked-finds _ _ _ _ _ (sym (c .before .before .before .before .before .before .before .before .before .before .before .before .before .before .before .before .before .before .before .before .before .before .before .before .before .before .before .before .before .before .before .before .before .before .before .before .before .before .before .before .before .parse .ensures) ∙ c .before .before .before .before .before .before .before .before .before .before .before .before .before .before .before .before .before .before .before .before .before .before .before .before .before .before .before .before .before .before .before .before .before .before .before .before .before .before .before .r .given .1) (rw part-to-end at (c .before .before .before .before .before .before .before .before .before .before .before .before .before .before .before .before .before .before .before .before .before .before .before .before .walk-whole .ensures))
+returns c = asked-finds _ _ _ _ _ (sym (c .before .before .before .before .before .before .before .before .before .before .before .before .before .before .before .before .before .before .before .before .parse .ensures) ∙ c .before .before .before .before .before .before .before .before .before .before .before .before .before .before .before .before .before .before .r .given .1) (rw part-to-end at (c .before .before .before .before .before .before .before .before .before .before .walk-whole .ensures))
 
 returns-2 : tie.Need-returns-2
 returns-2 c = refused-finds _ _ _ (sym (c .before .before .before .parse .ensures) ∙ c .before .enum-told .given .1) (c .no-counts .ensures)
@@ -91,12 +70,5 @@ find-spec =
     same-length-3
     same-length-4
     same-length-5
-    same-length-6
-    same-length-7
-    same-length-8
-    same-length-9
-    same-length-10
-    same-length-11
-    same-length-12
     returns
     returns-2)

@@ -1,7 +1,7 @@
 -- `walk_whole` meets its contract.
 -- Assumes nothing.
-use borrow.Author.Needs.{needs}
 use Rattle.finder.proofs.FinderLaws.{run-finds}
+use borrow.Author.Needs.{needs}
 use Rattle.finder.proofs.walk_whole.Statement.{statement}
 use Rattle.finder.proofs.walk_whole.Tie as tie
 
@@ -29,29 +29,8 @@ same-length-4 c = search needs
 same-length-5 : tie.Need-same-length-5
 same-length-5 c = search needs
 
-same-length-6 : tie.Need-same-length-6
-same-length-6 c = search needs
-
-same-length-7 : tie.Need-same-length-7
-same-length-7 c = search needs
-
-same-length-8 : tie.Need-same-length-8
-same-length-8 c = search needs
-
-same-length-9 : tie.Need-same-length-9
-same-length-9 c = search needs
-
-same-length-10 : tie.Need-same-length-10
-same-length-10 c = search needs
-
-same-length-11 : tie.Need-same-length-11
-same-length-11 c = search needs
-
-same-length-12 : tie.Need-same-length-12
-same-length-12 c = search needs
-
 returns : tie.Need-returns
-returns c = run-finds _ _ _ _ _ _ (c .before .before .before .before .before .before .before .before .before .before .before .before .before .before .before .before .before .before .before .before .before .before .before .before .before .before .before .no-counts .ensures) (c .before .before .before .before .before .before .before .before .before .before .before .before .before .before .before .before .before .before .before .before .before .before .before .before .before .before .run .ensures)
+returns c = run-finds _ _ _ _ _ _ (c .before .before .before .before .before .before .before .before .before .before .before .before .before .no-counts .ensures) (c .before .before .before .before .before .before .before .before .before .before .before .before .run .ensures)
 
 pub walk-whole-spec : {M : Type 1} → statement M
 walk-whole-spec =
@@ -65,11 +44,4 @@ walk-whole-spec =
     same-length-3
     same-length-4
     same-length-5
-    same-length-6
-    same-length-7
-    same-length-8
-    same-length-9
-    same-length-10
-    same-length-11
-    same-length-12
     returns)

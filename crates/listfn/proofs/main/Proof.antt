@@ -1,12 +1,12 @@
 -- `main` is safe: its buffer has room for every text, and what it writes lies within it.
 -- Assumes nothing.
 use mathlib.Core.Path.{sym}
-use native.Mathlib.Omega.{arith}
 use lib.Seq.{length-take-le}
-use borrow.Author.Needs.{needs}
 use Rattle.finder.proofs.FinderLaws.{listed-within, never-short}
+use borrow.Author.Needs.{needs}
 use Rattle.listfn.proofs.main.Statement.{statement}
 use Rattle.listfn.proofs.main.Tie as tie
+use native.Mathlib.Omega.{arith}
 
 slice-aggregate-read-full : tie.Need-slice-aggregate-read-full
 slice-aggregate-read-full c = search needs
@@ -38,38 +38,17 @@ slice-aggregate-list-function-6 c = search needs
 slice-aggregate-list-function-7 : tie.Need-slice-aggregate-list-function-7
 slice-aggregate-list-function-7 c = search needs
 
-slice-aggregate-list-function-8 : tie.Need-slice-aggregate-list-function-8
-slice-aggregate-list-function-8 c = search needs
-
-slice-aggregate-list-function-9 : tie.Need-slice-aggregate-list-function-9
-slice-aggregate-list-function-9 c = search needs
-
-slice-aggregate-list-function-10 : tie.Need-slice-aggregate-list-function-10
-slice-aggregate-list-function-10 c = search needs
-
-slice-aggregate-list-function-11 : tie.Need-slice-aggregate-list-function-11
-slice-aggregate-list-function-11 c = search needs
-
-slice-aggregate-list-function-12 : tie.Need-slice-aggregate-list-function-12
-slice-aggregate-list-function-12 c = search needs
-
-slice-aggregate-list-function-13 : tie.Need-slice-aggregate-list-function-13
-slice-aggregate-list-function-13 c = search needs
-
-slice-aggregate-list-function-14 : tie.Need-slice-aggregate-list-function-14
-slice-aggregate-list-function-14 c = search needs
-
 list-function-requires : tie.Need-list-function-requires
 list-function-requires c κs = search needs
 
 text-length-requires : tie.Need-text-length-requires
-text-length-requires c κs = never-short (c .before .before .before .before .before .before .before .before .before .before .before .before .before .list-function .ensures) (omega (arith, c .before .before .before .before .before .before .before .before .before .before .before .before .before .list-function .kept))
+text-length-requires c κs = never-short (c .before .before .before .before .before .before .list-function .ensures) (omega (arith, c .before .before .before .before .before .before .list-function .kept))
 
 array-share-prefix-out : tie.Need-array-share-prefix-out
-array-share-prefix-out c = listed-within (c .before .before .before .before .before .before .before .before .before .before .before .before .before .before .list-function .ensures) (c .text-length .ensures)
+array-share-prefix-out c = listed-within (c .before .before .before .before .before .before .before .list-function .ensures) (c .text-length .ensures)
 
 slice-aggregate-write-all : tie.Need-slice-aggregate-write-all
-slice-aggregate-write-all c = sym (length-take-le _ _ (listed-within (c .before .before .before .before .before .before .before .before .before .before .before .before .before .before .before .list-function .ensures) (c .before .text-length .ensures)))
+slice-aggregate-write-all c = sym (length-take-le _ _ (listed-within (c .before .before .before .before .before .before .before .before .list-function .ensures) (c .before .text-length .ensures)))
 
 write-all-requires : tie.Need-write-all-requires
 write-all-requires c κs = search needs
@@ -91,13 +70,6 @@ main-spec =
     slice-aggregate-list-function-5
     slice-aggregate-list-function-6
     slice-aggregate-list-function-7
-    slice-aggregate-list-function-8
-    slice-aggregate-list-function-9
-    slice-aggregate-list-function-10
-    slice-aggregate-list-function-11
-    slice-aggregate-list-function-12
-    slice-aggregate-list-function-13
-    slice-aggregate-list-function-14
     list-function-requires
     text-length-requires
     array-share-prefix-out

@@ -1,13 +1,12 @@
 -- `listing::put_answer` meets its contract.
 -- Assumes nothing.
 use Prim.Native.Nat.{zero-le}
-use native.Mathlib.Omega.{arith}
 use Rattle.text.proofs.Put.{written-then, written-none}
 use Rattle.listing.specs.Listing.{textWith, roomWith}
-use Rattle.listing.proofs.ListingLaws.{record-length}
 use borrow.Author.Needs.{needs}
 use Rattle.listing.proofs.put_answer.Statement.{statement}
 use Rattle.listing.proofs.put_answer.Tie as tie
+use native.Mathlib.Omega.{arith}
 
 enum-told : tie.Need-enum-told
 enum-told c = search needs
@@ -17,18 +16,18 @@ enum-known-answer c = search needs
 
 put-record-requires : tie.Need-put-record-requires
 unfolding roomWith
-put-record-requires c κs = omega (arith, c .before .before .before .before .before .before .before .before .before .before .before .before .before .before .before .before .before .pre .0)
+put-record-requires c κs = omega (arith, c .before .before .before .before .before .before .before .before .before .before .pre .0)
 
 put-lists-requires : tie.Need-put-lists-requires
 unfolding roomWith
-put-lists-requires c κs = (omega (arith, c .before .before .before .before .before .before .before .before .before .before .before .before .before .before .before .before .before .before .before .before .before .pre .0, (c .before .before .before .put-record .ensures), record-length (c .before .before .before .before .before .before .answer .given .0 .0)), c .before .before .before .before .before .before .before .before .before .before .before .before .before .before .before .before .before .before .before .before .before .pre .1)
+put-lists-requires c κs = (omega (arith, c .before .before .before .before .before .before .before .before .before .before .before .before .before .before .pre .0, c .before .before .before .put-record .ensures .1), c .before .before .before .before .before .before .before .before .before .before .before .before .before .before .pre .1)
 
 enum-known-answer-2 : tie.Need-enum-known-answer-2
 enum-known-answer-2 c = search needs
 
 put-refusal-requires : tie.Need-put-refusal-requires
 unfolding roomWith
-put-refusal-requires c κs = omega (arith, c .before .before .before .before .before .before .before .before .before .before .before .before .before .before .before .before .before .pre .0)
+put-refusal-requires c κs = omega (arith, c .before .before .before .before .before .before .before .before .before .before .pre .0)
 
 returns : tie.Need-returns
 unfolding textWith
@@ -39,7 +38,7 @@ same-length c = search needs
 
 returns-2 : tie.Need-returns-2
 unfolding textWith
-returns-2 c = rw (c .before .before .before .before .before .before .before .before .before .answer .given .1) (written-then (c .before .before .before .before .before .before .put-record .ensures) (c .before .before .put-lists .ensures) zero-le)
+returns-2 c = rw (c .before .before .before .before .before .before .before .before .before .answer .given .1) (written-then (c .before .before .before .before .before .before .put-record .ensures .0) (c .before .before .put-lists .ensures) zero-le)
 
 same-length-2 : tie.Need-same-length-2
 same-length-2 c = search needs

@@ -1,40 +1,45 @@
 -- `listing::put_line` meets its contract.
 -- Assumes nothing.
 use Prim.Native.Nat.{_≤_}
-use native.Mathlib.Omega.{arith}
 use lib.ListN.{length}
 use Rattle.text.proofs.Put.{written-then}
 use Rattle.listing.specs.Lines.{newline, lineOf}
-use Rattle.listing.proofs.LineLaws.{name-length, field-length, rest-length}
 use borrow.Author.Needs.{needs}
 use Rattle.listing.proofs.put_line.Statement.{statement}
 use Rattle.listing.proofs.put_line.Tie as tie
+use native.Mathlib.Omega.{arith}
 
-put-name-requires : tie.Need-put-name-requires
-put-name-requires c κs = search needs
+put-bytes-requires : tie.Need-put-bytes-requires
+put-bytes-requires c κs = search needs
+
+shared-slice-read-put-field : tie.Need-shared-slice-read-put-field
+shared-slice-read-put-field c = search needs
 
 put-field-requires : tie.Need-put-field-requires
-put-field-requires c κs = omega (arith, name-length (c .before .before .before .before .before .before .args .kind))
+put-field-requires c κs = search needs
 
 put-rest-requires : tie.Need-put-rest-requires
-put-rest-requires c κs = omega (arith, name-length (c .before .before .before .before .before .before .before .before .before .before .args .kind), field-length (c .before .before .before .before .before .before .before .before .before .before .args .first))
+put-rest-requires c κs = search needs
 
 put-byte-requires : tie.Need-put-byte-requires
-put-byte-requires c κs = omega (arith, name-length (c .before .before .before .before .before .before .before .before .before .before .before .before .before .before .args .kind), field-length (c .before .before .before .before .before .before .before .before .before .before .before .before .before .before .args .first), rest-length (c .before .before .before .before .before .before .before .before .before .before .before .before .before .before .args .kind) (c .before .before .before .before .before .before .before .before .before .before .before .before .before .before .args .second) (c .before .before .before .before .before .before .before .before .before .before .before .before .before .before .args .third) (c .before .before .before .before .before .before .before .before .before .before .before .before .before .before .args .fourth))
+put-byte-requires c κs = search needs
 
 same-length : tie.Need-same-length
 same-length c = search needs
 
 returns : tie.Need-returns
 unfolding lineOf newline
-returns c = let room : c .before .before .before .before .before .before .before .before .before .before .before .before .before .before .before .before .before .args .at ≤ length (c .before .before .before .before .before .before .before .before .before .before .before .before .before .before .before .before .before .args .out .now) = omega (arith, c .before .before .before .before .before .before .before .before .before .before .before .before .before .before .before .before .before) in
-    written-then (written-then (written-then (c .before .before .before .before .before .before .before .before .before .before .before .before .before .before .put-name .ensures) (c .before .before .before .before .before .before .before .before .before .before .put-field .ensures) room) (c .before .before .before .before .before .before .put-rest .ensures) room) (c .before .before .put-byte .ensures) room
+returns c =
+    let room : c .before .before .before .before .before .before .before .before .before .before .before .before .before .before .before .before .before .before .before .before .args .at ≤ length (c .before .before .before .before .before .before .before .before .before .before .before .before .before .before .before .before .before .before .before .before .args .out .now) = omega (arith, c .before .before .before .before .before .before .before .before .before .before .before .before .before .before .before .before .before .before .before .before) in
+    let fore = written-then (written-then (c .before .before .before .before .before .before .before .before .before .before .before .before .before .before .before .put-bytes .ensures) (c .before .before .before .before .before .before .before .before .before .before .put-field .ensures .0) room) (c .before .before .before .before .before .before .put-rest .ensures .0) room in
+    (written-then fore (c .before .before .put-byte .ensures) room, omega arith)
 
 pub put-line-spec : {M : Type 1} → statement M
 put-line-spec =
     tie.close
     (tie.spec
-    put-name-requires
+    put-bytes-requires
+    shared-slice-read-put-field
     put-field-requires
     put-rest-requires
     put-byte-requires

@@ -1,16 +1,15 @@
 -- `listing::put_record` meets its contract.
 -- Assumes nothing.
 use Prim.Native.Nat.{_≤_}
-use native.Mathlib.Omega.{arith}
 use lib.ListN.{length}
 use Rattle.text.proofs.Put.{written-then}
 use Rattle.words.specs.Names.{bytes}
 use Rattle.listing.specs.Lines.{newline}
 use Rattle.listing.specs.Listing.{recordLine}
-use Rattle.listing.proofs.LineLaws.{field-length}
 use borrow.Author.Needs.{needs}
 use Rattle.listing.proofs.put_record.Statement.{statement}
 use Rattle.listing.proofs.put_record.Tie as tie
+use native.Mathlib.Omega.{arith}
 
 slice-aggregate-put-bytes : tie.Need-slice-aggregate-put-bytes
 slice-aggregate-put-bytes c = search needs
@@ -22,24 +21,27 @@ put-field-requires : tie.Need-put-field-requires
 put-field-requires c κs = search needs
 
 put-field-requires-2 : tie.Need-put-field-requires-2
-put-field-requires-2 c κs = omega (arith, field-length (c .before .before .before .before .before .before .before .before .before .before .before .args .r .start))
+put-field-requires-2 c κs = search needs
 
 put-field-requires-3 : tie.Need-put-field-requires-3
-put-field-requires-3 c κs = omega (arith, field-length (c .before .before .before .before .before .before .before .before .before .before .before .before .before .before .before .args .r .start), field-length (c .before .before .before .before .before .before .before .before .before .before .before .before .before .before .before .args .r .end))
+put-field-requires-3 c κs = search needs
 
 put-field-requires-4 : tie.Need-put-field-requires-4
-put-field-requires-4 c κs = omega (arith, field-length (c .before .before .before .before .before .before .before .before .before .before .before .before .before .before .before .before .before .before .before .args .r .start), field-length (c .before .before .before .before .before .before .before .before .before .before .before .before .before .before .before .before .before .before .before .args .r .end), field-length (c .before .before .before .before .before .before .before .before .before .before .before .before .before .before .before .before .before .before .before .args .r .«first_instruction»))
+put-field-requires-4 c κs = search needs
 
 put-byte-requires : tie.Need-put-byte-requires
-put-byte-requires c κs = omega (arith, field-length (c .before .before .before .before .before .before .before .before .before .before .before .before .before .before .before .before .before .before .before .before .before .before .before .args .r .start), field-length (c .before .before .before .before .before .before .before .before .before .before .before .before .before .before .before .before .before .before .before .before .before .before .before .args .r .end), field-length (c .before .before .before .before .before .before .before .before .before .before .before .before .before .before .before .before .before .before .before .before .before .before .before .args .r .«first_instruction»), field-length (c .before .before .before .before .before .before .before .before .before .before .before .before .before .before .before .before .before .before .before .before .before .before .before .args .r .«last_instruction_end»))
+put-byte-requires c κs = search needs
 
 same-length : tie.Need-same-length
 same-length c = search needs
 
 returns : tie.Need-returns
 unfolding recordLine newline bytes
-returns c = let room : c .before .before .before .before .before .before .before .before .before .before .before .before .before .before .before .before .before .before .before .before .before .before .before .before .before .before .args .at ≤ length (c .before .before .before .before .before .before .before .before .before .before .before .before .before .before .before .before .before .before .before .before .before .before .before .before .before .before .args .out .now) = omega (arith, c .before .before .before .before .before .before .before .before .before .before .before .before .before .before .before .before .before .before .before .before .before .before .before .before .before .before) in
-    written-then (written-then (written-then (written-then (written-then (c .before .before .before .before .before .before .before .before .before .before .before .before .before .before .before .before .before .before .before .before .before .before .put-bytes .ensures) (c .before .before .before .before .before .before .before .before .before .before .before .before .before .before .before .before .before .before .put-field .ensures) room) (c .before .before .before .before .before .before .before .before .before .before .before .before .before .before .put-field2 .ensures) room) (c .before .before .before .before .before .before .before .before .before .before .put-field3 .ensures) room) (c .before .before .before .before .before .before .put-field4 .ensures) room) (c .before .before .put-byte .ensures) room
+returns c =
+    let room : c .before .before .before .before .before .before .before .before .before .before .before .before .before .before .before .before .before .before .before .before .before .before .before .before .before .before .args .at ≤ length (c .before .before .before .before .before .before .before .before .before .before .before .before .before .before .before .before .before .before .before .before .before .before .before .before .before .before .args .out .now) = omega (arith, c .before .before .before .before .before .before .before .before .before .before .before .before .before .before .before .before .before .before .before .before .before .before .before .before .before .before) in
+    let first = written-then (written-then (c .before .before .before .before .before .before .before .before .before .before .before .before .before .before .before .before .before .before .before .before .before .before .put-bytes .ensures) (c .before .before .before .before .before .before .before .before .before .before .before .before .before .before .before .before .before .before .put-field .ensures .0) room) (c .before .before .before .before .before .before .before .before .before .before .before .before .before .before .put-field2 .ensures .0) room in
+    let rest = written-then (written-then first (c .before .before .before .before .before .before .before .before .before .before .put-field3 .ensures .0) room) (c .before .before .before .before .before .before .put-field4 .ensures .0) room in
+    (written-then rest (c .before .before .put-byte .ensures) room, omega arith)
 
 pub put-record-spec : {M : Type 1} → statement M
 put-record-spec =

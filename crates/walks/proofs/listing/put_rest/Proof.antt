@@ -1,20 +1,24 @@
 -- `put_rest` ends, and stays within its slices.
-use Prim.Native.Nat.{_≤_, _-_}
 use borrow.Author.Needs.{needs}
+use Prim.Native.Nat.{_≤_, _-_}
+use lib.ListN.{length}
 use Rattle.walks.proofs.listing.put_rest.Statement.{statement}
 use Rattle.walks.proofs.listing.put_rest.Tie as tie
 
 abbrev Inv-loop : tie.InvT-loop
-Inv-loop number column count places i₀ i = 0 ≤ i
+Inv-loop list rows end i₀ i = 0 ≤ i
 
 abbrev μ-loop : tie.MeasureT-loop
-μ-loop number column count places i₀ i = places - i
+μ-loop list rows end i₀ i = length rows - i
 
 loop-holds : tie.Need-loop-holds Inv-loop μ-loop
 loop-holds c = search needs
 
-at-requires : tie.Need-at-requires Inv-loop μ-loop
-at-requires c κs = search needs
+mul-value : tie.Need-mul-value Inv-loop μ-loop
+mul-value c = search needs
+
+shared-slice-read-value : tie.Need-shared-slice-read-value Inv-loop μ-loop
+shared-slice-read-value c = search needs
 
 put-place-requires : tie.Need-put-place-requires Inv-loop μ-loop
 put-place-requires c κs = search needs
@@ -41,7 +45,8 @@ put-rest-spec =
     Inv-loop
     μ-loop
     loop-holds
-    at-requires
+    mul-value
+    shared-slice-read-value
     put-place-requires
     returns
     add-i
