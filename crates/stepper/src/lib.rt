@@ -17,7 +17,7 @@ pub struct Answered {
     pub answer: Answer,
 }
 
-fn is_going(answer: Answer) -> bool
+pub fn is_going(answer: Answer) -> bool
     ensures { λ r. ⌜ r ≡ isGoing answer ⌝ }
 {
     match answer {
