@@ -22,7 +22,7 @@ use Rattle.context.specs.Blocks.{isDestination, inConditionalBlock, toReturn, f
 use Rattle.context.specs.Context.{Context, Given, Step, callRow, labelRow, poolRow, tableRow, goingTo}
 use Rattle.context.specs.Lists.{Lists, lists, AllHeld, givenBy}
 use Rattle.context.specs.State.{World, Holds, Settles, Comes, Does, PutsIf, Told, asksCalls, contextOf, called, isOn, read, placed, hasPlace}
-use Rattle.context.specs.State.{labelsIn, poolsIn, jumpTablesIn, inlineTablesIn, optionsIn, codeIn, startsIn, passes, passesAs, headed, putting, counted, countCalls}
+use Rattle.context.specs.State.{labelsIn, poolsIn, jumpTablesIn, inlineTablesIn, optionsIn, codeIn, startsIn, passes, passesAs, headed, counted, countCalls}
 use Rattle.context.proofs.Laws.{settled as comes, stop, go-on}
 use Rattle.predicates.specs.Predicates.{isReturn}
 use Rattle.rows.specs.declared.Entered.{Entered}
@@ -31,7 +31,7 @@ use Rattle.rows.specs.Rows.{inserted}
 use Rattle.rows.proofs.RowLaws.{inserted-length}
 use Rattle.walk.specs.declared.Counts.{Counts}
 use Rattle.walk.specs.declared.Options.{Options}
-use Rattle.handle_ins.specs.Handles.{contextIn, worldOf, callsOf, Inner, hasRoom, callsAt, Stores, Handles}
+use Rattle.handle_ins.specs.Handles.{contextIn, worldOf, callsOf, Inner, hasRoom, callsAt, enteredAs, Stores, Handles}
 
 -- ---- whether a call goes to an address, from the i-th on
 
@@ -64,12 +64,10 @@ module _ (count : ℕ) (before : List ℕ) (r : Stepped) where
       → p ≡ record { then = r .then; state = t } → Stores count before before r p
   stores-none e h same is = rw (is, same, e) (record { held = h; counts = refl; says = λ q g l. refl; full = λ q. cc })
 
-  pub stores-call : {w d mode : ℕ} {after : List ℕ} {e : Entered} {p : Stepped} {t : State} → r .state .call ≡ Call w d mode
-      → Entering callRow count before (r .state .progress .address ∷ w ∷ d ∷ mode ∷ []) e after
-      → t ≡ putting Nothing (counted (countCalls (e .count) (r .state .counts)) (r .state))
-      → p ≡ record { then = pick (e .full) (Refuses listFull 0) (r .then); state = t } → Stores count before after r p
-  stores-call {w} {d} {mode} {after} {e} call i same is =
-      rw (is, same, call)
+  pub stores-call : {w d mode : ℕ} {after : List ℕ} {e : Entered} {p : Stepped} → r .state .call ≡ Call w d mode
+      → Entering callRow count before (r .state .progress .address ∷ w ∷ d ∷ mode ∷ []) e after → p ≡ enteredAs e r → Stores count before after r p
+  stores-call {w} {d} {mode} {after} {e} call i is =
+      rw (is, call)
       (record {
         held = i .held;
         counts = refl;

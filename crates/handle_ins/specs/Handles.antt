@@ -6,6 +6,7 @@ use mathlib.Core.List.{List, [], _∷_}
 use Prim.Native.Nat.{ℕ}
 use lib.ListN.{length}
 use Rattle.arm.specs.declared.Ins.{Ins}
+use Rattle.base.specs.Choice.{pick}
 use Rattle.base.specs.Refusals.{listFull}
 use Rattle.context.specs.declared.Put.the-variants.{Nothing}
 use Rattle.context.specs.declared.State.{State}
@@ -14,7 +15,8 @@ use Rattle.context.specs.declared.Then.the-variants.{Refuses}
 use Rattle.context.specs.Blocks.{handleInsInner}
 use Rattle.context.specs.Context.{Context, Given, Step, callRow}
 use Rattle.context.specs.Lists.{Lists, lists, AllHeld, mapsIn, placesOf}
-use Rattle.context.specs.State.{World, Comes, contextOf, read, placed, hasPlace, countCalls}
+use Rattle.context.specs.State.{World, Comes, contextOf, read, placed, hasPlace, putting, counted, countCalls}
+use Rattle.rows.specs.declared.Entered.{Entered}
 use Rattle.rows.specs.Map.{mapIn, Held, keyOf, fits}
 use Rattle.rows.specs.Rows.{inserted}
 
@@ -63,6 +65,13 @@ hasRoom a count calls = fits callRow (length calls) (inserted keyOf (a ∷ []) (
 
 abbrev pub callsAt : List ℕ → Lists → Lists
 callsAt calls l = lists (l .labels) (l .pools) (l .«jump_tables») (l .«inline_tables») calls
+
+-- the code's `entered`
+abbrev pub enteredAs : Entered → Stepped → Stepped
+enteredAs e r = record {
+  then = pick (e .full) (Refuses listFull 0) (r .then);
+  state = putting Nothing (counted (countCalls (e .count) (r .state .counts)) (r .state));
+}
 
 -- the call that r puts is in its list, if that has a place, and else p is a refusal
 pub record Stores (count : ℕ) (before after : List ℕ) (r p : Stepped) : Type 0 where

@@ -12,6 +12,7 @@ use context::is_on;
 use context::pass;
 use handling::from_return;
 use handling::to_return;
+use rows::Entered;
 use rows::insert::enter;
 use rows::search::field;
 use walk::Options;
@@ -24,7 +25,7 @@ ghost use Rattle.context.specs.Blocks.{isDestination, handleIns};
 ghost use Rattle.context.specs.Lists.{lists, AllHeld, givenBy};
 ghost use Rattle.context.specs.State.{asksCalls};
 ghost use Rattle.rows.specs.Map.{Held, mapIn};
-ghost use Rattle.handle_ins.specs.Handles.{contextIn, NoCall, Inner, Stores, Handles};
+ghost use Rattle.handle_ins.specs.Handles.{contextIn, NoCall, Inner, enteredAs, Stores, Handles};
 
 // function_calls.values().any(..): one goes to the address.
 fn is_destination(calls: &[u32], count: usize, address: u32) -> bool
@@ -104,6 +105,18 @@ fn handle_ins_inner(
     )
 }
 
+// The step once its call was entered: without a place it is a refusal.
+pub fn entered(r: Stepped, e: Entered) -> Stepped
+    ensures { λ p. ⌜ p ≡ enteredAs e r ⌝ }
+{
+    let then = r.then;
+    let state = assign::with_call(assign::count_calls(r.state, e.count), Put::Nothing);
+    if e.full {
+        return assign::refuse(state, LIST_FULL);
+    }
+    Stepped { then, state }
+}
+
 // The step's call in its list, which had `count` before it.
 fn put_call(r: Stepped, count: usize, calls: &mut [u32]) -> Stepped
     requires { ⌜ Held callRow count (now calls) ⌝ }
@@ -124,11 +137,7 @@ fn put_call(r: Stepped, count: usize, calls: &mut [u32]) -> Stepped
         } => {
             let p = s.progress;
             let e = enter(calls, CALL_ROW, count, [p.address, word, destination, mode]);
-            let t = assign::with_call(assign::count_calls(s, e.count), Put::Nothing);
-            if e.full {
-                return assign::refuse(t, LIST_FULL);
-            }
-            Stepped { then, state: t }
+            entered(r, e)
         }
     }
 }

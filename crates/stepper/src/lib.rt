@@ -31,7 +31,7 @@ pub fn is_going(answer: Answer) -> bool
     }
 }
 
-fn refused(number: u8) -> Answer
+pub fn refused(number: u8) -> Answer
     ensures { λ r. ⌜ r ≡ refused number ⌝ }
 {
     Answer::Refused {
@@ -41,7 +41,8 @@ fn refused(number: u8) -> Answer
     }
 }
 
-fn zero_all(
+// Zeros in every place of every list.
+pub fn zero_all(
     labels: &mut [u32],
     pools: &mut [u32],
     jump_tables: &mut [u32],

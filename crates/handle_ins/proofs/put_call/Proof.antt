@@ -1,6 +1,6 @@
 -- `handle_ins::put_call` meets its contract.
 -- Assumes nothing.
-use mathlib.Core.Path.{_≡_, refl, sym, ap, _∙_}
+use mathlib.Core.Path.{refl}
 use denote.Ref.{now}
 use Rattle.handle_ins.proofs.Laws.{stores-none, stores-call}
 use borrow.Author.Needs.{needs}
@@ -19,29 +19,23 @@ enum-known-call c = search needs
 enter-requires : tie.Need-enter-requires
 enter-requires c κs = search needs
 
-count-calls-requires-2 : tie.Need-count-calls-requires-2
-count-calls-requires-2 c κs = search needs
+entered-requires : tie.Need-entered-requires
+entered-requires c κs = search needs
 
-with-call-requires : tie.Need-with-call-requires
-with-call-requires c κs = search needs
-
-refuse-requires : tie.Need-refuse-requires
-refuse-requires c κs = search needs
+returns : tie.Need-returns
+returns c =
+    let start = c .before .before .before .before .before in
+    stores-none (start .args .count) (now (start .args .calls)) (start .args .r) (c .before .enum-told .given .1) (start .pre)
+    (c .count-calls .ensures) refl
 
 same-length : tie.Need-same-length
 same-length c = search needs
 
-returns : tie.Need-returns
-returns c = stores-call (c .before .before .before .before .before .before .before .before .before .before .before .before .before .before .args .count) (now (c .before .before .before .before .before .before .before .before .before .before .before .before .before .before .args .calls)) (c .before .before .before .before .before .before .before .before .before .before .before .before .before .before .args .r) (c .before .before .before .before .before .before .before .before .before .before .call .given .1) (c .before .before .before .before .before .before .enter .ensures) (c .before .before .with-call .ensures ∙ rw (c .before .before .before .count-calls2 .ensures)) (c .refuse .ensures ∙ rw (c .before .if1 .taken))
-
 returns-2 : tie.Need-returns-2
-returns-2 c = stores-none (c .before .before .before .before .before .args .count) (now (c .before .before .before .before .before .args .calls)) (c .before .before .before .before .before .args .r) (c .before .enum-told .given .1) (c .before .before .before .before .before .pre) (c .count-calls .ensures) refl
-
-same-length-2 : tie.Need-same-length-2
-same-length-2 c = search needs
-
-returns-3 : tie.Need-returns-3
-returns-3 c = stores-call (c .before .before .before .before .before .before .before .before .before .before .before .before .before .args .count) (now (c .before .before .before .before .before .before .before .before .before .before .before .before .before .args .calls)) (c .before .before .before .before .before .before .before .before .before .before .before .before .before .args .r) (c .before .before .before .before .before .before .before .before .before .call .given .1) (c .before .before .before .before .before .enter .ensures) (c .before .with-call .ensures ∙ rw (c .before .before .count-calls2 .ensures)) (rw (c .if1 .left))
+returns-2 c =
+    let start = c .before .before .before .before .before .before .before .before .before .before .before in
+    stores-call (start .args .count) (now (start .args .calls)) (start .args .r) (c .before .before .before .before .before .before .before .call .given .1) (c .before .before .before .enter .ensures)
+    (c .entered .ensures)
 
 pub put-call-spec : {M : Type 1} → statement M
 put-call-spec =
@@ -51,11 +45,7 @@ put-call-spec =
     count-calls-requires
     enum-known-call
     enter-requires
-    count-calls-requires-2
-    with-call-requires
-    refuse-requires
-    same-length
+    entered-requires
     returns
-    returns-2
-    same-length-2
-    returns-3)
+    same-length
+    returns-2)
