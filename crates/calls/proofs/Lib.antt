@@ -1,5 +1,4 @@
--- The laws of `specs/`, and what the walks of this crate share.
-pub mod FieldLaws
-pub mod Again
-pub mod Shared
+pub mod RecordLaws
+pub mod ToldLaws
+pub mod EditLaws
 pub mod Walk

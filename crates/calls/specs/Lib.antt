@@ -1,2 +1,2 @@
--- The lists of calls, as the columns of the crate `lists`.
-pub mod Fields
+-- What the contracts of this crate cite.
+pub mod Records

@@ -1,11 +1,14 @@
-// A list of calls in a slice that a host lends, one record for each: the ascending list of the crate
-// `lists`, with its four columns side by side. The definitions are those of the columns. The walk
-// calls these, and has checked the count.
+// A list of calls in a slice of records that a host lends. The records' numbers one after another are the rows of which the
+// definitions speak.
+//
+// The prover covers no function over references to records. `tell`, the lookup, and `put`, the insert, are proved by hand,
+// so they do as little as can be; the rest is left to functions over numbers.
+use rows::Entered;
 ghost use mathlib.Core.Path.{_≡_};
-ghost use Prim.Native.Nat.{_<_, _≤_};
+ghost use Prim.Native.Nat.{_≤_};
 ghost use lib.ListN.{length};
-ghost use Rattle.lists.specs.Place.{place};
-ghost use Rattle.calls.specs.Fields.{addresses, endOf, changeBy, ShiftedIn, Placed};
+ghost use Rattle.base.specs.Choice.{pick, both, either};
+ghost use Rattle.calls.specs.Records.{edited, clearing, isNone, seenBy, Tells, Enters};
 
 pub struct Call {
     pub address: u32,
@@ -14,77 +17,187 @@ pub struct Call {
     pub mode: u32,
 }
 
-// Where a call from that address stands or belongs among the first `count`.
-pub fn find(calls: &[Call], count: usize, address: u32) -> usize
-    requires { ⌜ count ≤ length (now calls) ⌝ }
-    ensures { λ r. ⌜ r ≡ place (addresses (now (calls .entry))) count address ⌝ }
+// What is asked of a list of `count` calls for an address, and what the records tell of it, from the last to the first.
+pub struct Told {
+    pub count: usize,
+    pub address: u32,
+    // how many records there are
+    pub places: usize,
+    // the address of the call that was passed last
+    pub next: u32,
+    // there is room for the count, the calls ascend by address, and zeros follow them
+    pub is_ordered: bool,
+    // a call goes to the instruction after the address
+    pub is_called: bool,
+    // where a call from the address stands or belongs, and whether it stands there
+    pub at: usize,
+    pub is_held: bool,
+}
+
+// A change of the records from `from` to `end`: `call` stands at `from`, and each that stood there moves up by one; or, where
+// nothing moves, `call` stands at every place.
+pub struct Edit {
+    pub from: usize,
+    pub end: usize,
+    pub call: Call,
+    pub moves: bool,
+}
+
+// What entering a call left, and the change that does it.
+pub struct Entry {
+    pub entered: Entered,
+    pub edit: Edit,
+}
+
+fn both(p: bool, q: bool) -> bool
+    ensures { λ r. ⌜ r ≡ both p q ⌝ }
 {
-    let mut lo: usize = 0;
-    let mut hi = count;
-    while lo < hi {
-        let mid = lo + (hi - lo) / 2;
-        if calls[mid].address < address {
-            lo = mid + 1;
-        } else {
-            hi = mid;
+    if p {
+        return q;
+    }
+    false
+}
+
+fn either(p: bool, q: bool) -> bool
+    ensures { λ r. ⌜ r ≡ either p q ⌝ }
+{
+    if p {
+        return true;
+    }
+    q
+}
+
+fn is_none(c: Call) -> bool
+    ensures { λ r. ⌜ r ≡ isNone c ⌝ }
+{
+    both(
+        both(c.address == 0, c.word == 0),
+        both(c.destination == 0, c.mode == 0),
+    )
+}
+
+// What the record at place `i` tells, with those after it.
+fn seen(t: Told, i: usize, c: Call) -> Told
+    ensures { λ r. ⌜ r ≡ seenBy t i c ⌝ }
+{
+    let mut s = t;
+    if t.count <= i {
+        s.is_ordered = both(is_none(c), t.is_ordered);
+        s.at = i;
+        return s;
+    }
+    s.next = c.address;
+    s.is_ordered = both(either(t.count <= i + 1, c.address < t.next), t.is_ordered);
+    s.is_called = either(c.destination as u64 == t.address as u64 + 4, t.is_called);
+    if c.address < t.address {
+        return s;
+    }
+    s.at = i;
+    s.is_held = c.address == t.address;
+    s
+}
+
+// The lookup: what all records tell of a list of `count` calls for an address.
+pub fn tell(calls: &[Call], count: usize, address: u32) -> Told
+    ensures { λ r. ⌜ Tells (now (calls .entry)) count address r ⌝ }
+{
+    let mut i = calls.len();
+    let mut t = Told {
+        count,
+        address,
+        places: i,
+        next: 0,
+        is_ordered: count <= i,
+        is_called: false,
+        at: i,
+        is_held: false,
+    };
+    while 0 < i {
+        i = i - 1;
+        t = seen(t, i, calls[i]);
+    }
+    t
+}
+
+// Zeros in the first records, up to `end`.
+pub fn clear(end: usize) -> Edit
+    ensures { λ r. ⌜ r ≡ clearing end ⌝ }
+{
+    Edit {
+        from: 0,
+        end,
+        call: Call {
+            address: 0,
+            word: 0,
+            destination: 0,
+            mode: 0,
+        },
+        moves: false,
+    }
+}
+
+// The last place that an insert writes: the held call's, or the first behind the calls.
+fn last_of(t: Told) -> usize
+    ensures { λ r. ⌜ r ≡ pick (t .«is_held») (t .at) (t .count) ⌝ }
+{
+    if t.is_held {
+        return t.at;
+    }
+    t.count
+}
+
+// A call from the address that was asked for is entered: it replaces the one that stands there, or needs a free place.
+pub fn enter(t: Told, call: Call) -> Entry
+    ensures { λ r. ⌜ Enters t call r ⌝ }
+{
+    let last = last_of(t);
+    if t.places <= last {
+        return Entry {
+            entered: Entered {
+                full: true,
+                count: t.count,
+            },
+            edit: clear(0),
+        };
+    }
+    let end = last + 1;
+    let edit = Edit {
+        from: t.at,
+        end,
+        call,
+        moves: true,
+    };
+    if t.is_held {
+        return Entry {
+            entered: Entered {
+                full: false,
+                count: t.count,
+            },
+            edit,
+        };
+    }
+    Entry {
+        entered: Entered {
+            full: false,
+            count: end,
+        },
+        edit,
+    }
+}
+
+// The insert, or any other change of the records.
+pub fn put(calls: &mut [Call], e: Edit)
+    requires { ⌜ e .end ≤ length (now calls) ⌝ }
+    ensures { λ _. ⌜ now (calls .exit) ≡ edited e (now (calls .entry)) ⌝ }
+{
+    let mut call = e.call;
+    let mut i = e.from;
+    while i < e.end {
+        let next = calls[i];
+        calls[i] = call;
+        i = i + 1;
+        if e.moves {
+            call = next;
         }
-    }
-    lo
-}
-
-// A call is put at `at`; those from there to `count` move up one, each once, from the last to the
-// first.
-pub fn shift_in(calls: &mut [Call], count: usize, at: usize, call: Call)
-    requires { ⌜ (count < length (now calls)) × (at ≤ count) ⌝ }
-    ensures { λ _. ⌜ ShiftedIn (now (calls .entry)) count at call (now (calls .exit)) ⌝ }
-{
-    let mut k = count;
-    while at < k {
-        calls[k] = calls[k - 1];
-        k = k - 1;
-    }
-    calls[at] = call;
-}
-
-// Where the run of calls ends that an insert at `at` moves: at once if the address stands there,
-// else at the count.
-pub fn end_of(calls: &[Call], count: usize, at: usize, address: u32) -> usize
-    requires { ⌜ count ≤ length (now calls) ⌝ }
-    ensures { λ r. ⌜ r ≡ endOf (addresses (now (calls .entry))) count at address ⌝ }
-{
-    if count <= at {
-        return count;
-    }
-    if calls[at].address == address {
-        return at;
-    }
-    count
-}
-
-// A call is put in its place: for the one from its address, or between its neighbours; a full list
-// is left as it is. The answer is the end of the run that moved, for `change`.
-pub fn insert(calls: &mut [Call], count: usize, call: Call) -> usize
-    requires { ⌜ count ≤ length (now calls) ⌝ }
-    ensures { λ r. ⌜ Placed (now (calls .entry)) count call r (now (calls .exit)) ⌝ }
-{
-    let at = find(&*calls, count, call.address);
-    let end = end_of(&*calls, count, at, call.address);
-    if calls.len() <= end {
-        return end;
-    }
-    shift_in(&mut *calls, end, at, call);
-    end
-}
-
-// What an insert did, by the end of the run that it moved.
-pub fn change(capacity: usize, count: usize, end: usize) -> lists::Change
-    ensures { λ r. ⌜ r ≡ changeBy capacity count end ⌝ }
-{
-    if capacity <= end {
-        lists::Change::Full
-    } else if end < count {
-        lists::Change::Replaced
-    } else {
-        lists::Change::Added
     }
 }

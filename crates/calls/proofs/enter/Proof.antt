@@ -1,0 +1,39 @@
+-- `calls::enter` meets its contract.
+-- Assumes nothing.
+use mathlib.Core.Bool.{false}
+use Rattle.calls.specs.Records.{none}
+use Rattle.calls.proofs.EditLaws.{rewritten-none, full-is, held-is, new-is}
+use borrow.Author.Needs.{needs}
+use Rattle.calls.proofs.enter.Statement.{statement}
+use Rattle.calls.proofs.enter.Tie as tie
+
+last-of-requires : tie.Need-last-of-requires
+last-of-requires c κs = search needs
+
+clear-requires : tie.Need-clear-requires
+clear-requires c κs = search needs
+
+returns : tie.Need-returns
+returns c =
+    let start = c .before .before .before .before in
+    let t = start .args .t in
+    λ calls n w h. rw (c .clear .ensures, rewritten-none false none 0 calls) (full-is t (start .args .call) calls n w h (c .before .before .before .last-of .ensures) (c .before .if1 .taken))
+
+add-end : tie.Need-add-end
+add-end c = search needs
+
+returns-2 : tie.Need-returns-2
+returns-2 c =
+    let start = c .before .before .before .before in
+    let t = start .args .t in
+    λ calls n w h. held-is t (start .args .call) calls n w h (c .before .before .before .last-of .ensures) (c .before .if1 .left) (c .if2 .taken)
+
+returns-3 : tie.Need-returns-3
+returns-3 c =
+    let start = c .before .before .before .before in
+    let t = start .args .t in
+    λ calls n w h. new-is t (start .args .call) calls n w h (c .before .before .before .last-of .ensures) (c .before .if1 .left) (c .if2 .left)
+
+pub enter-spec : {M : Type 1} → statement M
+enter-spec =
+    tie.close (tie.spec last-of-requires clear-requires returns add-end returns-2 returns-3)

@@ -1,4 +1,0 @@
--- What the contracts of this crate cite.
-pub mod Plain
-pub mod Put
-pub mod Scan
