@@ -40,6 +40,14 @@ rewritten-end moves call i zero (c ∷ cs) h = refl
 rewritten-end moves call zero (suc e) (c ∷ cs) h = absurd (not-suc-le-zero h)
 rewritten-end moves call (suc i) (suc e) (c ∷ cs) h = ap (λ r. c ∷ r) (rewritten-end moves call i e cs (le-of-suc-le-suc h))
 
+-- there is nothing past the last record
+pub rewritten-past : (moves : Bool) (call : Call) (i e : ℕ) (cs : List Call) → length cs ≤ e → rewritten moves call i (length cs) cs ≡ rewritten moves call i e cs
+unfolding rewritten
+rewritten-past moves call i e [] h = refl
+rewritten-past moves call i zero (c ∷ cs) h = absurd (not-suc-le-zero h)
+rewritten-past moves call zero (suc e) (c ∷ cs) h = ap (λ r. call ∷ r) (rewritten-past moves (pick moves c call) 0 e cs (le-of-suc-le-suc h))
+rewritten-past moves call (suc i) (suc e) (c ∷ cs) h = ap (λ r. c ∷ r) (rewritten-past moves call i e cs (le-of-suc-le-suc h))
+
 -- the record at place i is written, and the rest is left to do
 pub rewritten-turn : (moves : Bool) (call : Call) (i e : ℕ) (cs : List Call) → i < e → i < length cs
     → rewritten moves call i e cs ≡ rewritten moves (pick moves (getD cs i none) call) (suc i) e (set cs i call)

@@ -5,8 +5,6 @@
 // so they do as little as can be; the rest is left to functions over numbers.
 use rows::Entered;
 ghost use mathlib.Core.Path.{_≡_};
-ghost use Prim.Native.Nat.{_≤_};
-ghost use lib.ListN.{length};
 ghost use Rattle.base.specs.Choice.{pick, both, either};
 ghost use Rattle.calls.specs.Records.{edited, clearing, isNone, seenBy, Tells, Enters};
 
@@ -187,12 +185,15 @@ pub fn enter(t: Told, call: Call) -> Entry
 
 // The insert, or any other change of the records.
 pub fn put(calls: &mut [Call], e: Edit)
-    requires { ⌜ e .end ≤ length (now calls) ⌝ }
     ensures { λ _. ⌜ now (calls .exit) ≡ edited e (now (calls .entry)) ⌝ }
 {
+    let mut end = calls.len();
+    if e.end < end {
+        end = e.end;
+    }
     let mut call = e.call;
     let mut i = e.from;
-    while i < e.end {
+    while i < end {
         let next = calls[i];
         calls[i] = call;
         i = i + 1;
