@@ -1,2 +1,0 @@
--- The runs of the walk, and what their theorems say.
-pub mod Runs
