@@ -31,7 +31,7 @@ use Rattle.rows.specs.Rows.{inserted}
 use Rattle.rows.proofs.RowLaws.{inserted-length}
 use Rattle.walk.specs.declared.Counts.{Counts}
 use Rattle.walk.specs.declared.Options.{Options}
-use Rattle.handle_ins.specs.Handles.{contextIn, worldOf, callsOf, Inner, hasRoom, callsAt, enteredAs, Stores, Handles}
+use Rattle.handle_ins.specs.Handles.{contextIn, worldOf, allIn, callsOf, Inner, hasRoom, callsAt, enteredAs, Stores, Handles}
 
 -- ---- whether a call goes to an address, from the i-th on
 
@@ -112,58 +112,52 @@ all-holds o code starts calls h = record {
   inlineTablePlaces = refl;
 }
 
--- up to in_conditional_block, and from there on
-module _ (o : Options) (code starts : List ℕ) (i : Ins) (word size : ℕ) (s : State) (before : Lists) where
-  pub inner-first : {pools jumps : List ℕ} {r : Stepped} → AllHeld (s .counts) before
-      → Does (λ l. poolsIn (before .pools) (jumpTablesIn (before .«jump_tables») (inlineTablesIn (before .«inline_tables») l)))
-      (λ l. poolsIn pools (jumpTablesIn jumps (inlineTablesIn (before .«inline_tables») l)))
-      (toReturn i)
-      s
-      r
-      → Settles (s .progress .address) (s .call) r
-      (worldOf (givenBy o code starts before) (callsOf s before) (lists (before .labels) pools jumps (before .«inline_tables») (before .calls)))
-      (toReturn i (contextOf s (worldOf (givenBy o code starts before) (callsOf s before) before)))
-  inner-first held does = does (worldOf (givenBy o code starts before) (callsOf s before) before) (all-holds o code starts (callsOf s before) held)
+-- up to in_conditional_block, and from there on, whatever else stands in the world
+module _ (o : Options) (code starts : List ℕ) (i : Ins) (word size : ℕ) (s : State) (before : Lists) (l : World) {pools jumps : List ℕ} {r : Stepped}
+    (held : Holds (s .counts) (allIn o code starts before l))
+    (does : Does (λ l. poolsIn (before .pools) (jumpTablesIn (before .«jump_tables») (inlineTablesIn (before .«inline_tables») l)))
+    (λ l. poolsIn pools (jumpTablesIn jumps (inlineTablesIn (before .«inline_tables») l)))
+    (toReturn i)
+    s
+    r) where
+  abbrev mid : World
+  mid = allIn o code starts (lists (before .labels) pools jumps (before .«inline_tables») []) l
 
-  module _ {pools jumps : List ℕ} {r : Stepped}
-      (w : Settles (s .progress .address) (s .call) r
-      (worldOf (givenBy o code starts before) (callsOf s before) (lists (before .labels) pools jumps (before .«inline_tables») (before .calls)))
-      (toReturn i (contextOf s (worldOf (givenBy o code starts before) (callsOf s before) before)))) where
-    pub inner-stops : isOn (r .then) ≡ false
-        → Inner (givenBy o code starts before) i word size s before (lists (before .labels) pools jumps (before .«inline_tables») (before .calls)) r
-    unfolding handleInsInner
-    inner-stops e =
-        stop (λ c. fromReturn i word size (inConditionalBlock c) (isReturn (c .progress .address) i (c .progress .previous)) c) e (comes w)
+  pub inner-first : Settles (s .progress .address) (s .call) r mid (toReturn i (contextOf s (allIn o code starts before l)))
+  inner-first = does (codeIn code (startsIn starts (optionsIn o (labelsIn (before .labels) l)))) held
 
-    pub inner-goes : {labels' pools' inlines' : List ℕ} {u : Stepped} {block returns isCalled : Bool} → s .call ≡ Nothing → isOn (r .then) ≡ true
-        → block ≡ ltb (r .state .progress .address) (r .state .progress .«last_conditional_destination»)
-        → returns ≡ isReturn (r .state .progress .address) i (r .state .progress .previous)
-        → (asksCalls size block returns (r .state .progress) ≡ true → isCalled ≡ isDestination (r .state .progress .address + size) (callsOf s before))
-        → PutsIf (Told size block returns isCalled (r .state))
-        (λ l. codeIn code (startsIn starts (optionsIn o (labelsIn (before .labels) (poolsIn pools (inlineTablesIn (before .«inline_tables») l))))))
-        (λ l. codeIn code (startsIn starts (optionsIn o (labelsIn labels' (poolsIn pools' (inlineTablesIn inlines' l))))))
-        (fromReturn i word size block returns)
-        (r .state)
-        u
-        → Inner (givenBy o code starts before) i word size s before (lists labels' pools' jumps inlines' (before .calls)) u
-    unfolding handleInsInner inConditionalBlock
-    inner-goes {labels'} {pools'} {inlines'} {u} {block} {returns} {isCalled} none is-on is-block is-returning tells puts =
-        subst
-        (λ (a : ℕ). Comes (hasPlace a (worldOf (givenBy o code starts before) (callsOf s before) before)) (s .progress .address) (s .call) u
-        (worldOf (givenBy o code starts before) (callsOf s before) (lists labels' pools' jumps inlines' (before .calls)))
-        (handleInsInner i word size (contextOf s (worldOf (givenBy o code starts before) (callsOf s before) before))))
-        (w .stays)
-        (go-on (λ c. fromReturn i word size (inConditionalBlock c) (isReturn (c .progress .address) i (c .progress .previous)) c) is-on (comes w)
-        (rw (is-block, is-returning) at (puts mid told (w .holds))))
-      where
-        mid : World
-        mid = worldOf (givenBy o code starts before) (callsOf s before) (lists (before .labels) pools jumps (before .«inline_tables») (before .calls))
+  pub inner-stops : {has : Bool} → isOn (r .then) ≡ false
+      → Comes has (s .progress .address) (s .call) r mid (handleInsInner i word size (contextOf s (allIn o code starts before l)))
+  unfolding handleInsInner
+  inner-stops e =
+      stop (λ c. fromReturn i word size (inConditionalBlock c) (isReturn (c .progress .address) i (c .progress .previous)) c) e (comes inner-first)
 
-        told : asksCalls size block returns (r .state .progress) ≡ true
-            → isCalled ≡ isDestination (r .state .progress .address + size) (contextOf (r .state) mid .maps .calls)
-        told e =
-            tells e
-            ∙ sym (ap (λ (k : Put). isDestination (r .state .progress .address + size) (called k (r .state .progress .address) (callsOf s before))) (w .call ∙ none))
+  pub inner-goes : {labels' pools' inlines' : List ℕ} {u : Stepped} {block returns isCalled : Bool} → s .call ≡ Nothing → isOn (r .then) ≡ true
+      → block ≡ ltb (r .state .progress .address) (r .state .progress .«last_conditional_destination»)
+      → returns ≡ isReturn (r .state .progress .address) i (r .state .progress .previous)
+      → (asksCalls size block returns (r .state .progress) ≡ true → isCalled ≡ isDestination (r .state .progress .address + size) (l .calls))
+      → PutsIf (Told size block returns isCalled (r .state))
+      (λ l. codeIn code (startsIn starts (optionsIn o (labelsIn (before .labels) (poolsIn pools (inlineTablesIn (before .«inline_tables») l))))))
+      (λ l. codeIn code (startsIn starts (optionsIn o (labelsIn labels' (poolsIn pools' (inlineTablesIn inlines' l))))))
+      (fromReturn i word size block returns)
+      (r .state)
+      u
+      → Comes (hasPlace (s .progress .address) l) (s .progress .address) (s .call) u (allIn o code starts (lists labels' pools' jumps inlines' []) l)
+      (handleInsInner i word size (contextOf s (allIn o code starts before l)))
+  unfolding handleInsInner inConditionalBlock
+  inner-goes {labels'} {pools'} {inlines'} {u} {block} {returns} {isCalled} none is-on is-block is-returning tells puts =
+      subst
+      (λ (a : ℕ). Comes (hasPlace a l) (s .progress .address) (s .call) u (allIn o code starts (lists labels' pools' jumps inlines' []) l)
+      (handleInsInner i word size (contextOf s (allIn o code starts before l))))
+      (inner-first .stays)
+      (go-on (λ c. fromReturn i word size (inConditionalBlock c) (isReturn (c .progress .address) i (c .progress .previous)) c) is-on (comes inner-first)
+      (rw (is-block, is-returning) at (puts mid told (inner-first .holds))))
+    where
+      told : asksCalls size block returns (r .state .progress) ≡ true
+          → isCalled ≡ isDestination (r .state .progress .address + size) (contextOf (r .state) mid .maps .calls)
+      told e =
+          tells e
+          ∙ sym (ap (λ (k : Put). isDestination (r .state .progress .address + size) (called k (r .state .progress .address) (l .calls))) (inner-first .call ∙ none))
 
 pub below : (size : ℕ) {x a : ℕ} → x ≡ a → a + size < 2 ^ 32 → x + size < 2 ^ 32
 below size e h = rw e h

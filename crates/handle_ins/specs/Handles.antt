@@ -16,9 +16,11 @@ use Rattle.context.specs.Blocks.{handleInsInner}
 use Rattle.context.specs.Context.{Context, Given, Step, callRow}
 use Rattle.context.specs.Lists.{Lists, lists, AllHeld, mapsIn, placesOf}
 use Rattle.context.specs.State.{World, Comes, contextOf, read, placed, hasPlace, putting, counted, countCalls}
+use Rattle.context.specs.State.{labelsIn, poolsIn, jumpTablesIn, inlineTablesIn, optionsIn, codeIn, startsIn}
 use Rattle.rows.specs.declared.Entered.{Entered}
 use Rattle.rows.specs.Map.{mapIn, Held, keyOf, fits}
 use Rattle.rows.specs.Rows.{inserted}
+use Rattle.walk.specs.declared.Options.{Options}
 
 -- the context of a state, with the maps that the lists hold
 abbrev pub contextIn : Given → State → Lists → Context
@@ -41,6 +43,12 @@ worldOf g calls l = record {
   «inline_tables» = l .«inline_tables»;
   calls = calls;
 }
+
+-- all that a step's blocks are lent, in a world of which they see nothing else
+abbrev pub allIn : Options → List ℕ → List ℕ → Lists → World → World
+allIn o code starts x l =
+    codeIn code (startsIn starts (optionsIn o
+    (labelsIn (x .labels) (poolsIn (x .pools) (jumpTablesIn (x .«jump_tables») (inlineTablesIn (x .«inline_tables») l))))))
 
 -- no call is to be put before a step
 abbrev pub NoCall : State → Type 0

@@ -3,8 +3,9 @@
 use mathlib.Core.Path.{_≡_, refl, sym, ap, _∙_}
 use borrow.Author.Tests.{not-true, not-false}
 use denote.Ref.{now}
-use Rattle.context.specs.Lists.{lists}
-use Rattle.handle_ins.proofs.Laws.{inner-first, inner-stops, inner-goes, below}
+use Rattle.context.specs.Lists.{lists, givenBy}
+use Rattle.handle_ins.specs.Handles.{worldOf, callsOf}
+use Rattle.handle_ins.proofs.Laws.{all-holds, inner-first, inner-stops, inner-goes, below}
 use borrow.Author.Needs.{needs}
 use Rattle.handle_ins.proofs.handle_ins_inner.Statement.{statement}
 use Rattle.handle_ins.proofs.handle_ins_inner.Tie as tie
@@ -26,8 +27,15 @@ same-length-3 c = search needs
 
 returns : tie.Need-returns
 returns c =
-    let w = inner-first (c .before .before .before .before .before .before .before .before .before .before .before .before .before .before .before .before .before .before .args .o) (now (c .before .before .before .before .before .before .before .before .before .before .before .before .before .before .before .before .before .before .args .code)) (now (c .before .before .before .before .before .before .before .before .before .before .before .before .before .before .before .before .before .before .args .starts)) (c .before .before .before .before .before .before .before .before .before .before .before .before .before .before .before .before .before .before .args .ins) (c .before .before .before .before .before .before .before .before .before .before .before .before .before .before .before .before .before .before .args .word) (c .before .before .before .before .before .before .before .before .before .before .before .before .before .before .before .before .before .before .args .size) (c .before .before .before .before .before .before .before .before .before .before .before .before .before .before .before .before .before .before .args .s) (lists (now (c .before .before .before .before .before .before .before .before .before .before .before .before .before .before .before .before .before .before .args .labels)) (now (c .before .before .before .before .before .before .before .before .before .before .before .before .before .before .before .before .before .before .args .pools)) (now (c .before .before .before .before .before .before .before .before .before .before .before .before .before .before .before .before .before .before .args .jump-tables)) (now (c .before .before .before .before .before .before .before .before .before .before .before .before .before .before .before .before .before .before .args .inline-tables)) (now (c .before .before .before .before .before .before .before .before .before .before .before .before .before .before .before .before .before .before .args .calls))) (c .before .before .before .before .before .before .before .before .before .before .before .before .before .before .before .before .before .before .pre .1) (c .before .before .before .before .before .before .to-return .ensures) in
-    inner-stops (c .before .before .before .before .before .before .before .before .before .before .before .before .before .before .before .before .before .before .args .o) (now (c .before .before .before .before .before .before .before .before .before .before .before .before .before .before .before .before .before .before .args .code)) (now (c .before .before .before .before .before .before .before .before .before .before .before .before .before .before .before .before .before .before .args .starts)) (c .before .before .before .before .before .before .before .before .before .before .before .before .before .before .before .before .before .before .args .ins) (c .before .before .before .before .before .before .before .before .before .before .before .before .before .before .before .before .before .before .args .word) (c .before .before .before .before .before .before .before .before .before .before .before .before .before .before .before .before .before .before .args .size) (c .before .before .before .before .before .before .before .before .before .before .before .before .before .before .before .before .before .before .args .s) (lists (now (c .before .before .before .before .before .before .before .before .before .before .before .before .before .before .before .before .before .before .args .labels)) (now (c .before .before .before .before .before .before .before .before .before .before .before .before .before .before .before .before .before .before .args .pools)) (now (c .before .before .before .before .before .before .before .before .before .before .before .before .before .before .before .before .before .before .args .jump-tables)) (now (c .before .before .before .before .before .before .before .before .before .before .before .before .before .before .before .before .before .before .args .inline-tables)) (now (c .before .before .before .before .before .before .before .before .before .before .before .before .before .before .before .before .before .before .args .calls))) w (sym (c .before .is-on .ensures) ∙ not-true _ (c .if1 .taken))
+    let start = c .before .before .before .before .before .before .before .before .before .before .before .before .before .before .before .before .before .before in
+    let o = start .args .o in
+    let code = now (start .args .code) in
+    let starts = now (start .args .starts) in
+    let s = start .args .s in
+    let before = lists (now (start .args .labels)) (now (start .args .pools)) (now (start .args .jump-tables)) (now (start .args .inline-tables)) (now (start .args .calls)) in
+    let world = worldOf (givenBy o code starts before) (callsOf s before) before in
+    let held = all-holds o code starts (callsOf s before) (start .pre .1) in
+    inner-stops o code starts (start .args .ins) (start .args .word) (start .args .size) s before world held (c .before .before .before .before .before .before .to-return .ensures) (sym (c .before .is-on .ensures) ∙ not-true _ (c .if1 .taken))
 
 in-conditional-block-requires : tie.Need-in-conditional-block-requires
 in-conditional-block-requires c κs = search needs
@@ -37,13 +45,29 @@ is-return-requires c κs = search needs
 
 is-called-next-requires : tie.Need-is-called-next-requires
 is-called-next-requires c κs =
-    let w = inner-first (c .before .before .before .before .before .before .before .before .before .before .before .before .before .before .before .before .before .before .before .before .before .before .args .o) (now (c .before .before .before .before .before .before .before .before .before .before .before .before .before .before .before .before .before .before .before .before .before .before .args .code)) (now (c .before .before .before .before .before .before .before .before .before .before .before .before .before .before .before .before .before .before .before .before .before .before .args .starts)) (c .before .before .before .before .before .before .before .before .before .before .before .before .before .before .before .before .before .before .before .before .before .before .args .ins) (c .before .before .before .before .before .before .before .before .before .before .before .before .before .before .before .before .before .before .before .before .before .before .args .word) (c .before .before .before .before .before .before .before .before .before .before .before .before .before .before .before .before .before .before .before .before .before .before .args .size) (c .before .before .before .before .before .before .before .before .before .before .before .before .before .before .before .before .before .before .before .before .before .before .args .s) (lists (now (c .before .before .before .before .before .before .before .before .before .before .before .before .before .before .before .before .before .before .before .before .before .before .args .labels)) (now (c .before .before .before .before .before .before .before .before .before .before .before .before .before .before .before .before .before .before .before .before .before .before .args .pools)) (now (c .before .before .before .before .before .before .before .before .before .before .before .before .before .before .before .before .before .before .before .before .before .before .args .jump-tables)) (now (c .before .before .before .before .before .before .before .before .before .before .before .before .before .before .before .before .before .before .before .before .before .before .args .inline-tables)) (now (c .before .before .before .before .before .before .before .before .before .before .before .before .before .before .before .before .before .before .before .before .before .before .args .calls))) (c .before .before .before .before .before .before .before .before .before .before .before .before .before .before .before .before .before .before .before .before .before .before .pre .1) (c .before .before .before .before .before .before .before .before .before .before .to-return .ensures) in
-    (c .before .before .before .before .before .before .before .before .before .before .before .before .before .before .before .before .before .before .before .before .before .before .pre .1 .calls, below (c .before .before .before .before .before .before .before .before .before .before .before .before .before .before .before .before .before .before .before .before .before .before .args .size) (w .stays) (c .before .before .before .before .before .before .before .before .before .before .before .before .before .before .before .before .before .before .before .before .before .before .pre .4))
+    let start = c .before .before .before .before .before .before .before .before .before .before .before .before .before .before .before .before .before .before .before .before .before .before in
+    let o = start .args .o in
+    let code = now (start .args .code) in
+    let starts = now (start .args .starts) in
+    let s = start .args .s in
+    let before = lists (now (start .args .labels)) (now (start .args .pools)) (now (start .args .jump-tables)) (now (start .args .inline-tables)) (now (start .args .calls)) in
+    let world = worldOf (givenBy o code starts before) (callsOf s before) before in
+    let held = all-holds o code starts (callsOf s before) (start .pre .1) in
+    let first = inner-first o code starts (start .args .ins) (start .args .word) (start .args .size) s before world held (c .before .before .before .before .before .before .before .before .before .before .to-return .ensures) in
+    (start .pre .1 .calls, below (start .args .size) (first .stays) (start .pre .4))
 
 from-return-requires : tie.Need-from-return-requires
 from-return-requires c κs =
-    let w = inner-first (c .before .before .before .before .before .before .before .before .before .before .before .before .before .before .before .before .before .before .before .before .before .before .before .before .before .before .args .o) (now (c .before .before .before .before .before .before .before .before .before .before .before .before .before .before .before .before .before .before .before .before .before .before .before .before .before .before .args .code)) (now (c .before .before .before .before .before .before .before .before .before .before .before .before .before .before .before .before .before .before .before .before .before .before .before .before .before .before .args .starts)) (c .before .before .before .before .before .before .before .before .before .before .before .before .before .before .before .before .before .before .before .before .before .before .before .before .before .before .args .ins) (c .before .before .before .before .before .before .before .before .before .before .before .before .before .before .before .before .before .before .before .before .before .before .before .before .before .before .args .word) (c .before .before .before .before .before .before .before .before .before .before .before .before .before .before .before .before .before .before .before .before .before .before .before .before .before .before .args .size) (c .before .before .before .before .before .before .before .before .before .before .before .before .before .before .before .before .before .before .before .before .before .before .before .before .before .before .args .s) (lists (now (c .before .before .before .before .before .before .before .before .before .before .before .before .before .before .before .before .before .before .before .before .before .before .before .before .before .before .args .labels)) (now (c .before .before .before .before .before .before .before .before .before .before .before .before .before .before .before .before .before .before .before .before .before .before .before .before .before .before .args .pools)) (now (c .before .before .before .before .before .before .before .before .before .before .before .before .before .before .before .before .before .before .before .before .before .before .before .before .before .before .args .jump-tables)) (now (c .before .before .before .before .before .before .before .before .before .before .before .before .before .before .before .before .before .before .before .before .before .before .before .before .before .before .args .inline-tables)) (now (c .before .before .before .before .before .before .before .before .before .before .before .before .before .before .before .before .before .before .before .before .before .before .before .before .before .before .args .calls))) (c .before .before .before .before .before .before .before .before .before .before .before .before .before .before .before .before .before .before .before .before .before .before .before .before .before .before .pre .1) (c .before .before .before .before .before .before .before .before .before .before .before .before .before .before .to-return .ensures) in
-    (c .before .before .before .before .before .before .before .before .before .before .before .before .before .before .before .before .before .before .before .before .before .before .before .before .before .before .pre .2, w .holds .labels, w .holds .pools, w .holds .«inline_tables», below (c .before .before .before .before .before .before .before .before .before .before .before .before .before .before .before .before .before .before .before .before .before .before .before .before .before .before .args .size) (w .stays) (c .before .before .before .before .before .before .before .before .before .before .before .before .before .before .before .before .before .before .before .before .before .before .before .before .before .before .pre .4), w .call ∙ c .before .before .before .before .before .before .before .before .before .before .before .before .before .before .before .before .before .before .before .before .before .before .before .before .before .before .pre .0)
+    let start = c .before .before .before .before .before .before .before .before .before .before .before .before .before .before .before .before .before .before .before .before .before .before .before .before .before .before in
+    let o = start .args .o in
+    let code = now (start .args .code) in
+    let starts = now (start .args .starts) in
+    let s = start .args .s in
+    let before = lists (now (start .args .labels)) (now (start .args .pools)) (now (start .args .jump-tables)) (now (start .args .inline-tables)) (now (start .args .calls)) in
+    let world = worldOf (givenBy o code starts before) (callsOf s before) before in
+    let held = all-holds o code starts (callsOf s before) (start .pre .1) in
+    let first = inner-first o code starts (start .args .ins) (start .args .word) (start .args .size) s before world held (c .before .before .before .before .before .before .before .before .before .before .before .before .before .before .to-return .ensures) in
+    (start .pre .2, first .holds .labels, first .holds .pools, first .holds .«inline_tables», below (start .args .size) (first .stays) (start .pre .4), first .call ∙ start .pre .0)
 
 same-length-4 : tie.Need-same-length-4
 same-length-4 c = search needs
@@ -59,8 +83,16 @@ same-length-7 c = search needs
 
 returns-2 : tie.Need-returns-2
 returns-2 c =
-    let w = inner-first (c .before .before .before .before .before .before .before .before .before .before .before .before .before .before .before .before .before .before .before .before .before .before .before .before .before .before .before .before .before .before .before .before .before .args .o) (now (c .before .before .before .before .before .before .before .before .before .before .before .before .before .before .before .before .before .before .before .before .before .before .before .before .before .before .before .before .before .before .before .before .before .args .code)) (now (c .before .before .before .before .before .before .before .before .before .before .before .before .before .before .before .before .before .before .before .before .before .before .before .before .before .before .before .before .before .before .before .before .before .args .starts)) (c .before .before .before .before .before .before .before .before .before .before .before .before .before .before .before .before .before .before .before .before .before .before .before .before .before .before .before .before .before .before .before .before .before .args .ins) (c .before .before .before .before .before .before .before .before .before .before .before .before .before .before .before .before .before .before .before .before .before .before .before .before .before .before .before .before .before .before .before .before .before .args .word) (c .before .before .before .before .before .before .before .before .before .before .before .before .before .before .before .before .before .before .before .before .before .before .before .before .before .before .before .before .before .before .before .before .before .args .size) (c .before .before .before .before .before .before .before .before .before .before .before .before .before .before .before .before .before .before .before .before .before .before .before .before .before .before .before .before .before .before .before .before .before .args .s) (lists (now (c .before .before .before .before .before .before .before .before .before .before .before .before .before .before .before .before .before .before .before .before .before .before .before .before .before .before .before .before .before .before .before .before .before .args .labels)) (now (c .before .before .before .before .before .before .before .before .before .before .before .before .before .before .before .before .before .before .before .before .before .before .before .before .before .before .before .before .before .before .before .before .before .args .pools)) (now (c .before .before .before .before .before .before .before .before .before .before .before .before .before .before .before .before .before .before .before .before .before .before .before .before .before .before .before .before .before .before .before .before .before .args .jump-tables)) (now (c .before .before .before .before .before .before .before .before .before .before .before .before .before .before .before .before .before .before .before .before .before .before .before .before .before .before .before .before .before .before .before .before .before .args .inline-tables)) (now (c .before .before .before .before .before .before .before .before .before .before .before .before .before .before .before .before .before .before .before .before .before .before .before .before .before .before .before .before .before .before .before .before .before .args .calls))) (c .before .before .before .before .before .before .before .before .before .before .before .before .before .before .before .before .before .before .before .before .before .before .before .before .before .before .before .before .before .before .before .before .before .pre .1) (c .before .before .before .before .before .before .before .before .before .before .before .before .before .before .before .before .before .before .before .before .before .to-return .ensures) in
-    inner-goes (c .before .before .before .before .before .before .before .before .before .before .before .before .before .before .before .before .before .before .before .before .before .before .before .before .before .before .before .before .before .before .before .before .before .args .o) (now (c .before .before .before .before .before .before .before .before .before .before .before .before .before .before .before .before .before .before .before .before .before .before .before .before .before .before .before .before .before .before .before .before .before .args .code)) (now (c .before .before .before .before .before .before .before .before .before .before .before .before .before .before .before .before .before .before .before .before .before .before .before .before .before .before .before .before .before .before .before .before .before .args .starts)) (c .before .before .before .before .before .before .before .before .before .before .before .before .before .before .before .before .before .before .before .before .before .before .before .before .before .before .before .before .before .before .before .before .before .args .ins) (c .before .before .before .before .before .before .before .before .before .before .before .before .before .before .before .before .before .before .before .before .before .before .before .before .before .before .before .before .before .before .before .before .before .args .word) (c .before .before .before .before .before .before .before .before .before .before .before .before .before .before .before .before .before .before .before .before .before .before .before .before .before .before .before .before .before .before .before .before .before .args .size) (c .before .before .before .before .before .before .before .before .before .before .before .before .before .before .before .before .before .before .before .before .before .before .before .before .before .before .before .before .before .before .before .before .before .args .s) (lists (now (c .before .before .before .before .before .before .before .before .before .before .before .before .before .before .before .before .before .before .before .before .before .before .before .before .before .before .before .before .before .before .before .before .before .args .labels)) (now (c .before .before .before .before .before .before .before .before .before .before .before .before .before .before .before .before .before .before .before .before .before .before .before .before .before .before .before .before .before .before .before .before .before .args .pools)) (now (c .before .before .before .before .before .before .before .before .before .before .before .before .before .before .before .before .before .before .before .before .before .before .before .before .before .before .before .before .before .before .before .before .before .args .jump-tables)) (now (c .before .before .before .before .before .before .before .before .before .before .before .before .before .before .before .before .before .before .before .before .before .before .before .before .before .before .before .before .before .before .before .before .before .args .inline-tables)) (now (c .before .before .before .before .before .before .before .before .before .before .before .before .before .before .before .before .before .before .before .before .before .before .before .before .before .before .before .before .before .before .before .before .before .args .calls))) w (c .before .before .before .before .before .before .before .before .before .before .before .before .before .before .before .before .before .before .before .before .before .before .before .before .before .before .before .before .before .before .before .before .before .pre .0) (sym (c .before .before .before .before .before .before .before .before .before .before .before .before .before .before .before .before .is-on .ensures) ∙ not-false _ (c .before .before .before .before .before .before .before .before .before .before .before .before .before .before .before .if1 .left)) (c .before .before .before .before .before .before .before .before .before .before .before .before .in-conditional-block .ensures) (c .before .before .before .before .before .before .before .before .before .before .before .is-return .ensures) (c .before .before .before .before .before .before .before .before .before .before .is-called-next .ensures) (c .before .before .before .before .before .before .from-return .ensures)
+    let start = c .before .before .before .before .before .before .before .before .before .before .before .before .before .before .before .before .before .before .before .before .before .before .before .before .before .before .before .before .before .before .before .before .before in
+    let o = start .args .o in
+    let code = now (start .args .code) in
+    let starts = now (start .args .starts) in
+    let s = start .args .s in
+    let before = lists (now (start .args .labels)) (now (start .args .pools)) (now (start .args .jump-tables)) (now (start .args .inline-tables)) (now (start .args .calls)) in
+    let world = worldOf (givenBy o code starts before) (callsOf s before) before in
+    let held = all-holds o code starts (callsOf s before) (start .pre .1) in
+    inner-goes o code starts (start .args .ins) (start .args .word) (start .args .size) s before world held (c .before .before .before .before .before .before .before .before .before .before .before .before .before .before .before .before .before .before .before .before .before .to-return .ensures)
+    (start .pre .0) (sym (c .before .before .before .before .before .before .before .before .before .before .before .before .before .before .before .before .is-on .ensures) ∙ not-false _ (c .before .before .before .before .before .before .before .before .before .before .before .before .before .before .before .if1 .left)) (c .before .before .before .before .before .before .before .before .before .before .before .before .in-conditional-block .ensures) (c .before .before .before .before .before .before .before .before .before .before .before .is-return .ensures) (c .before .before .before .before .before .before .before .before .before .before .is-called-next .ensures) (c .before .before .before .before .before .before .from-return .ensures)
 
 pub handle-ins-inner-spec : {M : Type 1} → statement M
 handle-ins-inner-spec =
