@@ -16,7 +16,6 @@ use Rattle.context.specs.Blocks.{handleInsInner}
 use Rattle.context.specs.Context.{Context, Given, Step, callRow}
 use Rattle.context.specs.Lists.{Lists, lists, AllHeld, mapsIn, placesOf}
 use Rattle.context.specs.State.{World, Comes, contextOf, read, placed, hasPlace, putting, counted, countCalls}
-use Rattle.context.specs.State.{labelsIn, poolsIn, jumpTablesIn, inlineTablesIn, optionsIn, codeIn, startsIn}
 use Rattle.rows.specs.declared.Entered.{Entered}
 use Rattle.rows.specs.Map.{mapIn, Held, keyOf, fits}
 use Rattle.rows.specs.Rows.{inserted}
@@ -46,9 +45,14 @@ worldOf g calls l = record {
 
 -- all that a step's blocks are lent, in a world of which they see nothing else
 abbrev pub allIn : Options → List ℕ → List ℕ → Lists → World → World
-allIn o code starts x l =
-    codeIn code (startsIn starts (optionsIn o
-    (labelsIn (x .labels) (poolsIn (x .pools) (jumpTablesIn (x .«jump_tables») (inlineTablesIn (x .«inline_tables») l))))))
+allIn o code starts x l = record {
+  given = record { options = o; places = l .given .places; code = code; starts = mapIn 1 (length starts) starts };
+  labels = x .labels;
+  pools = x .pools;
+  «jump_tables» = x .«jump_tables»;
+  «inline_tables» = x .«inline_tables»;
+  calls = l .calls;
+}
 
 -- no call is to be put before a step
 abbrev pub NoCall : State → Type 0
