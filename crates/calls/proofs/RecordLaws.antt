@@ -10,7 +10,7 @@ use borrow.Author.Tests.{leb-true, leb-false, le-leb, lt-leb}
 use lib.Dec.{leb}
 use lib.ListN.{length, take, drop, length-map}
 use lib.Seq.{take-at, drop-at, drop-nil, drop-append-add}
-use Rattle.base.specs.Choice.{pick, both}
+use Rattle.base.specs.Choice.{both}
 use Rattle.context.specs.Context.{callRow}
 use Rattle.rows.specs.Order.{ascending, zeros}
 use Rattle.rows.specs.Map.{keyOf, Wide, flat, mapIn, inOrder}

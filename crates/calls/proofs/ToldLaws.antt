@@ -1,14 +1,14 @@
 -- What the records from a place on tell, and what all of them do.
 -- Assumes nothing.
 use mathlib.Core.Path.{_≡_, refl, sym, ap, _∙_}
-use mathlib.Core.Bool.{Bool, true, false}
+use mathlib.Core.Bool.{Bool, true, false, _&&_, _||_}
 use mathlib.Core.List.{List, [], _∷_, map}
 use Prim.Native.Nat.{ℕ, zero, suc, _+_, _-_, _≤_, _<_}
 use native.Mathlib.Nat.{add-zero, zero-add}
 use native.Mathlib.Omega.{arith}
 use borrow.Author.Tests.{leb-true, leb-false, le-leb, lt-leb}
 use lib.Dec.{leb, ltb, eqb}
-use lib.ListN.{length, getD, take, drop}
+use lib.ListN.{length, getD, drop}
 use lib.Seq.{take-nil, drop-nil, drop-cons}
 use Rattle.base.specs.Choice.{pick, both, either}
 use Rattle.context.specs.Blocks.{isDestination}
@@ -17,7 +17,7 @@ use Rattle.rows.specs.Rows.{rank, stands}
 use Rattle.rows.specs.Map.{keyOf, flat}
 use Rattle.calls.specs.declared.Call.{Call}
 use Rattle.calls.specs.declared.Told.{Told}
-use Rattle.calls.specs.Records.{rowOf, numbersOf, rowsIn, isNone, passedBy, metBy, seenBy, Tells, none}
+use Rattle.calls.specs.Records.{numbersOf, rowsIn, isNone, passedBy, metBy, seenBy, Tells, none}
 use Rattle.calls.proofs.RecordLaws.{follows, order-is}
 
 -- what is asked, before any record is passed
@@ -55,15 +55,24 @@ joined : (p q r : Bool) → both p (both q r) ≡ both (both p q) r
 joined true q r = refl
 joined false q r = refl
 
-exchanged : (p q r : Bool) → both p (both q r) ≡ both q (both p r)
-exchanged true true r = refl
-exchanged true false r = refl
+exchanged : (p q r : Bool) → p && both q r ≡ both q (both p r)
+exchanged true q r = refl
 exchanged false true r = refl
 exchanged false false r = refl
 
-never : (p : Bool) → both p false ≡ false
+never : (p : Bool) → p && false ≡ false
 never true = refl
 never false = refl
+
+or-is : (p q : Bool) → p || q ≡ either p q
+or-is true q = refl
+or-is false q = refl
+
+four : (p q r s t : Bool) → both p (both q (both r (both s t))) ≡ both (p && q && r && s) t
+four true true true s t = refl
+four true true false s t = refl
+four true false r s t = refl
+four false q r s t = refl
 
 always : (p : Bool) → p ≡ both p true
 always true = refl
@@ -73,13 +82,7 @@ always false = refl
 
 pub zeros-more : (c : Call) (cs : List Call) → zeros (numbersOf (c ∷ cs)) ≡ both (isNone c) (zeros (numbersOf cs))
 unfolding flat zeros
-zeros-more c cs =
-    let a = eqb (c .address) 0 in
-    let w = eqb (c .word) 0 in
-    let d = eqb (c .destination) 0 in
-    let m = eqb (c .mode) 0 in
-    rw (← joined (both a w) (both d m) (zeros (numbersOf cs)), ← joined d m (zeros (numbersOf cs)))
-    (joined a w (both d (both m (zeros (numbersOf cs)))))
+zeros-more c cs = four (eqb (c .address) 0) (eqb (c .word) 0) (eqb (c .destination) 0) (eqb (c .mode) 0) (zeros (numbersOf cs))
 
 module _ {all n x i : ℕ} (c : Call) {cs : List Call} {t : Told} (w : Says all n x (suc i) cs t) where
   counted : i + suc (length cs) ≡ all
@@ -98,7 +101,7 @@ module _ {all n x i : ℕ} (c : Call) {cs : List Call} {t : Told} (w : Says all 
         next = λ l. absurd (omega arith);
         ordered =
             rw here
-            (ap (both (isNone c)) (w .ordered ∙ rw past)
+            (ap (λ p. isNone c && p) (w .ordered ∙ rw past)
             ∙ exchanged (isNone c) (leb n all) (zeros (numbersOf cs))
             ∙ ap (both (leb n all)) (sym (zeros-more c cs)));
         called = w .called ∙ rw (past, here);
@@ -108,14 +111,14 @@ module _ {all n x i : ℕ} (c : Call) {cs : List Call} {t : Told} (w : Says all 
 
   -- the calls from c on ascend where those behind it do, and it precedes them
   in-order : (k : ℕ) → n - suc i ≡ k → i < n
-      → both (either (leb (t .count) (i + 1)) (ltb (c .address) (t .next))) (both (leb n all) (follows k cs))
+      → (leb (t .count) (i + 1) || ltb (c .address) (t .next)) && both (leb n all) (follows k cs)
       ≡ both (leb n all) (follows (suc k) (c ∷ cs))
   unfolding ascending rising
   in-order zero e h = rw (w .counts, le-leb n (i + 1) (omega arith))
   in-order (suc k) e h = rw (w .counts, lt-leb n (i + 1) (omega arith)) (step cs (w .ends) (w .next (omega arith)))
     where
       step : (ds : List Call) → suc i + length ds ≡ all → t .next ≡ first ds
-          → both (ltb (c .address) (t .next)) (both (leb n all) (follows (suc k) ds)) ≡ both (leb n all) (follows (suc (suc k)) (c ∷ ds))
+          → ltb (c .address) (t .next) && both (leb n all) (follows (suc k) ds) ≡ both (leb n all) (follows (suc (suc k)) (c ∷ ds))
       step [] many f = rw (lt-leb n all (omega (arith, e))) (never (ltb (c .address) (t .next)))
       step (d ∷ ds) many f =
           let before = ltb (c .address) (d .address) in
@@ -134,7 +137,7 @@ module _ {all n x i : ℕ} (c : Call) {cs : List Call} {t : Told} (w : Says all 
         ends = counted;
         next = λ l. refl;
         ordered = rw (w .ordered, more) (in-order (n - suc i) refl h);
-        called = rw (w .asks, w .called, more);
+        called = rw (w .asks, w .called, more) (or-is (eqb (c .destination) (x + 4)) (isDestination (x + 4) (rowsIn (n - suc i) cs)));
         place = rw (w .asks, w .place, more) (step (ltb (c .address) x) (rank keyOf x (rowsIn (n - suc i) cs)));
         held = rw (w .asks, w .held, more);
       }

@@ -1,12 +1,12 @@
 -- A list of calls as records: their numbers one after another are a list of rows, what the records tell of it, and a change of them.
 -- Assumes nothing.
 use mathlib.Core.Path.{_≡_}
-use mathlib.Core.Bool.{Bool, true, false}
+use mathlib.Core.Bool.{Bool, false, _&&_, _||_}
 use mathlib.Core.List.{List, [], _∷_, map}
 use Prim.Native.Nat.{ℕ, zero, suc, _+_}
 use lib.Dec.{eqb, ltb, leb}
 use lib.ListN.{length, take}
-use Rattle.base.specs.Choice.{pick, both, either}
+use Rattle.base.specs.Choice.{pick}
 use Rattle.context.specs.Context.{callRow}
 use Rattle.context.specs.Blocks.{isDestination}
 use Rattle.rows.specs.Map.{keyOf, flat, inOrder, Held, Entering}
@@ -29,7 +29,7 @@ rowsIn count calls = take count (map rowOf calls)
 -- ---- what the records tell, from the last to the first
 
 abbrev pub isNone : Call → Bool
-isNone c = both (both (eqb (c .address) 0) (eqb (c .word) 0)) (both (eqb (c .destination) 0) (eqb (c .mode) 0))
+isNone c = eqb (c .address) 0 && eqb (c .word) 0 && eqb (c .destination) 0 && eqb (c .mode) 0
 
 -- a record behind the calls, at place i
 abbrev pub passedBy : Told → ℕ → Call → Told
@@ -38,7 +38,7 @@ passedBy t i c = record {
   address = t .address;
   places = t .places;
   next = t .next;
-  «is_ordered» = both (isNone c) (t .«is_ordered»);
+  «is_ordered» = isNone c && t .«is_ordered»;
   «is_called» = t .«is_called»;
   at = i;
   «is_held» = t .«is_held»;
@@ -51,8 +51,8 @@ metBy t i c = record {
   address = t .address;
   places = t .places;
   next = c .address;
-  «is_ordered» = both (either (leb (t .count) (i + 1)) (ltb (c .address) (t .next))) (t .«is_ordered»);
-  «is_called» = either (eqb (c .destination) (t .address + 4)) (t .«is_called»);
+  «is_ordered» = (leb (t .count) (i + 1) || ltb (c .address) (t .next)) && t .«is_ordered»;
+  «is_called» = eqb (c .destination) (t .address + 4) || t .«is_called»;
   at = pick (ltb (c .address) (t .address)) (t .at) i;
   «is_held» = pick (ltb (c .address) (t .address)) (t .«is_held») (eqb (c .address) (t .address));
 }

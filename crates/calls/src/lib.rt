@@ -5,7 +5,7 @@
 // so they do as little as can be; the rest is left to functions over numbers.
 use rows::Entered;
 ghost use mathlib.Core.Path.{_≡_};
-ghost use Rattle.base.specs.Choice.{pick, both, either};
+ghost use Rattle.base.specs.Choice.{pick};
 ghost use Rattle.calls.specs.Records.{edited, clearing, isNone, seenBy, Tells, Enters};
 
 pub struct Call {
@@ -47,31 +47,10 @@ pub struct Entry {
     pub edit: Edit,
 }
 
-fn both(p: bool, q: bool) -> bool
-    ensures { λ r. ⌜ r ≡ both p q ⌝ }
-{
-    if p {
-        return q;
-    }
-    false
-}
-
-fn either(p: bool, q: bool) -> bool
-    ensures { λ r. ⌜ r ≡ either p q ⌝ }
-{
-    if p {
-        return true;
-    }
-    q
-}
-
 fn is_none(c: Call) -> bool
     ensures { λ r. ⌜ r ≡ isNone c ⌝ }
 {
-    both(
-        both(c.address == 0, c.word == 0),
-        both(c.destination == 0, c.mode == 0),
-    )
+    (c.address == 0) & (c.word == 0) & (c.destination == 0) & (c.mode == 0)
 }
 
 // What the record at place `i` tells, with those after it.
@@ -80,13 +59,13 @@ fn seen(t: Told, i: usize, c: Call) -> Told
 {
     let mut s = t;
     if t.count <= i {
-        s.is_ordered = both(is_none(c), t.is_ordered);
+        s.is_ordered = is_none(c) & t.is_ordered;
         s.at = i;
         return s;
     }
     s.next = c.address;
-    s.is_ordered = both(either(t.count <= i + 1, c.address < t.next), t.is_ordered);
-    s.is_called = either(c.destination as u64 == t.address as u64 + 4, t.is_called);
+    s.is_ordered = ((t.count <= i + 1) | (c.address < t.next)) & t.is_ordered;
+    s.is_called = (c.destination as u64 == t.address as u64 + 4) | t.is_called;
     if c.address < t.address {
         return s;
     }
