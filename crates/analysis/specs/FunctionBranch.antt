@@ -5,7 +5,8 @@ use Rattle.classes.specs.declared.Class.the-variants.{Eor, Mov, Ldr, Add, B}
 use Rattle.arm.specs.declared.Ins.{Ins}
 use Rattle.analysis.specs.declared.function_branch.FunctionBranchState.{FunctionBranchState}
 use Rattle.analysis.specs.declared.function_branch.FunctionBranchState.the-variants.{Start, Eors, MovgePcLr, MovFromSp, LdrIpPc, AddR0Ip, FunctionBranch}
-use Rattle.analysis.specs.Pattern.{pick, both, isWhen, isData, isRegister, isPre, mi, ge, al, ip, sp, lr, pc}
+use Rattle.analysis.specs.Pattern.{isWhen, isData, isRegister, isPre, mi, ge, al, ip, sp, lr, pc}
+use Rattle.base.specs.Choice.{pick, both}
 
 -- movge pc, lr
 unfoldable pub movgePcLr : Ins → Bool

@@ -7,7 +7,9 @@ use Rattle.arm.specs.declared.Ins.{Ins}
 use Rattle.classes.specs.Class.{is}
 use Rattle.analysis.specs.declared.illegal_code.IllegalCodeState.{IllegalCodeState}
 use Rattle.analysis.specs.declared.illegal_code.IllegalCodeState.the-variants.{Start, ShiftedRegisterValue, Illegal}
-use Rattle.analysis.specs.Pattern.{pick, both, byItself, pc}
+use Rattle.analysis.specs.Pattern.{byItself, pc}
+use Rattle.base.specs.Refusals.{illegalOpcode, shiftedBase, offsetByItself as offsetRefused, pcIntoPc}
+use Rattle.base.specs.Choice.{pick, both}
 
 -- a register gets a shifted value
 unfoldable pub isShift : Ins → Bool
@@ -30,11 +32,11 @@ pcInList regs = eqb (regs / 2 ^ 15 % 2) 1
 unfoldable pub readsPcIntoPc : Ins → Bool
 readsPcIntoPc i = both (is (i .class) Ldm) (both (eqb (i .rn) pc) (pcInList (i .regs)))
 
--- the reasons by document 01's numbers: illegal opcode, dereferencing shifted registers, offset by itself, PC read into PC
+-- the reasons are document 01's numbers
 unfoldable pub illegalCode : IllegalCodeState → Ins → IllegalCodeState
 illegalCode s i =
-    pick (is (i .class) ILLEGAL) (Illegal 5)
+    pick (is (i .class) ILLEGAL) (Illegal illegalOpcode)
     (pick (isShift i) (ShiftedRegisterValue (i .rd))
-    (pick (dereferenced s i) (Illegal 6)
-    (pick (offsetByItself i) (Illegal 7)
-    (pick (readsPcIntoPc i) (Illegal 8) Start))))
+    (pick (dereferenced s i) (Illegal shiftedBase)
+    (pick (offsetByItself i) (Illegal offsetRefused)
+    (pick (readsPcIntoPc i) (Illegal pcIntoPc) Start))))

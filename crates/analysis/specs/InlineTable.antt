@@ -13,9 +13,10 @@ use Rattle.analysis.specs.declared.inline_table.InlineTableAnswer.{Inlin
 use Rattle.analysis.specs.declared.inline_table.InlineTableAnswer.the-variants.{Next, Refused}
 use Rattle.analysis.specs.declared.inline_table.FoundTable.{FoundTable}
 use Rattle.analysis.specs.declared.inline_table.FoundTable.the-variants.{Table, Nothing}
-use Rattle.analysis.specs.Pattern.{pick, both, isWhen, isData, isPre, shiftedRight, al, pc}
+use Rattle.analysis.specs.Pattern.{isWhen, isData, isPre, byLsr, al, pc}
+use Rattle.base.specs.Choice.{pick, both}
 
--- 0x100, and 4 or 8 bytes that PC reads as past the instruction
+-- 0x100, and how far ahead of the instruction PC reads: 4 bytes in Thumb, 8 in ARM
 abbrev pub aheadOf : Bool → ℕ
 aheadOf true = 0x104
 aheadOf false = 0x108
@@ -37,7 +38,7 @@ subPcOf thumb address i = pick (both (isData i Sub al false) (eqb (i .rn) pc)) (
 
 -- ldrb *, [table_base, r* lsr #*]
 unfoldable pub isTableLoad : Ins → ℕ → Bool
-isTableLoad i base = both (isWhen i Ldrb al) (both (isPre (i .addr) base) (shiftedRight (i .addr)))
+isTableLoad i base = both (isWhen i Ldrb al) (both (isPre (i .addr) base) (byLsr (i .addr)))
 
 unfoldable pub tableMade : ℕ → ℕ → InlineTableAnswer
 tableMade address size = pick (ltb (address + size) 0x1_0000_0000) (Next (ValidTable (record { address = address; size = size }))) Refused

@@ -13,7 +13,8 @@ use Rattle.analysis.specs.declared.jump_table.JumpTableAnswer.{JumpTable
 use Rattle.analysis.specs.declared.jump_table.JumpTableAnswer.the-variants.{Next, Found, Refused}
 use Rattle.analysis.specs.declared.jump_table.TableEnd.{TableEnd}
 use Rattle.analysis.specs.declared.jump_table.TableEnd.the-variants.{At, Nothing, Refused as End-Refused}
-use Rattle.analysis.specs.Pattern.{pick, both, isWhen, isData, isScaled, hi, ls, ge, gt, al, pc}
+use Rattle.analysis.specs.Pattern.{isWhen, isData, isScaled, hi, ls, ge, gt, al, pc}
+use Rattle.base.specs.Choice.{pick, both}
 
 -- the immediate that a compare tests against; 0 where it is a register
 abbrev pub limitOf : Op2 → ℕ

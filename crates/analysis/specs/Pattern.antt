@@ -2,6 +2,7 @@
 use Prim.Native.Nat.{ℕ}
 use mathlib.Core.Bool.{Bool, true, false, Bool·beq}
 use lib.Dec.{eqb}
+use Rattle.base.specs.Choice.{pick, both}
 use Rattle.classes.specs.declared.Class.{Class}
 use Rattle.arm.specs.declared.Ins.{Ins}
 use Rattle.classes.specs.declared.ShiftOp.{ShiftOp}
@@ -13,15 +14,6 @@ use Rattle.classes.specs.declared.LdrStrOffset.the-variants.{Imm as Offset-Imm,
 use Rattle.classes.specs.declared.AddrLdrStr.{AddrLdrStr}
 use Rattle.classes.specs.declared.AddrLdrStr.the-variants.{Pre, Post}
 use Rattle.classes.specs.Class.{is}
-
--- the first where the test holds, else the second
-abbrev pub pick : {A : Type 0} → Bool → A → A → A
-pick true a b = a
-pick false a b = b
-
--- both tests
-abbrev pub both : Bool → Bool → Bool
-both s t = pick s t false
 
 -- conditions and registers, by number
 abbrev pub mi : ℕ
@@ -101,11 +93,11 @@ abbrev pub byItself : AddrLdrStr → Bool
 byItself (Pre rn offset w) = offsetBy offset rn
 byItself (Post rn offset) = offsetBy offset rn
 
--- an offset that is a register shifted right
-abbrev pub isRight : LdrStrOffset → Bool
-isRight (Offset-Imm z) = false
-isRight (Reg rm op n sub) = isLsr op
+-- an offset that is a register shifted by LSR
+abbrev pub offsetByLsr : LdrStrOffset → Bool
+offsetByLsr (Offset-Imm z) = false
+offsetByLsr (Reg rm op n sub) = isLsr op
 
-abbrev pub shiftedRight : AddrLdrStr → Bool
-shiftedRight (Pre rn offset w) = isRight offset
-shiftedRight (Post rn offset) = isRight offset
+abbrev pub byLsr : AddrLdrStr → Bool
+byLsr (Pre rn offset w) = offsetByLsr offset
+byLsr (Post rn offset) = offsetByLsr offset

@@ -2,6 +2,10 @@
 use crate::pattern::PC;
 use crate::pattern::by_itself;
 use arm::Ins;
+use base::refusal::ILLEGAL_OPCODE;
+use base::refusal::OFFSET_BY_ITSELF;
+use base::refusal::PC_INTO_PC;
+use base::refusal::SHIFTED_BASE;
 use classes::Class;
 ghost use mathlib.Core.Path.{_≡_};
 ghost use Rattle.analysis.specs.IllegalCode.{illegalCode, isShift, dereferenced, offsetByItself, readsPcIntoPc, pcInList};
@@ -18,19 +22,25 @@ impl IllegalCodeState {
         ensures { λ r. ⌜ r ≡ illegalCode self ins ⌝ }
     {
         if ins.is(Class::Illegal) {
-            return IllegalCodeState::Illegal { reason: 5 };
+            return IllegalCodeState::Illegal {
+                reason: ILLEGAL_OPCODE,
+            };
         }
         if is_shift(ins) {
             return IllegalCodeState::ShiftedRegisterValue { reg: ins.rd };
         }
         if dereferenced_by(self, ins) {
-            return IllegalCodeState::Illegal { reason: 6 };
+            return IllegalCodeState::Illegal {
+                reason: SHIFTED_BASE,
+            };
         }
         if offset_by_itself(ins) {
-            return IllegalCodeState::Illegal { reason: 7 };
+            return IllegalCodeState::Illegal {
+                reason: OFFSET_BY_ITSELF,
+            };
         }
         if reads_pc_into_pc(ins) {
-            return IllegalCodeState::Illegal { reason: 8 };
+            return IllegalCodeState::Illegal { reason: PC_INTO_PC };
         }
         IllegalCodeState::Start
     }

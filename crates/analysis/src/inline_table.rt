@@ -1,10 +1,10 @@
 // Data tables inside a function, by the two instructions that read one (inline_table.rs).
 use crate::pattern::AL;
 use crate::pattern::PC;
+use crate::pattern::by_lsr;
 use crate::pattern::is_data;
 use crate::pattern::is_pre;
 use crate::pattern::is_when;
-use crate::pattern::shifted_right;
 use arm::Ins;
 use classes::Class;
 use classes::Op2;
@@ -135,7 +135,7 @@ fn is_table_load(ins: Ins, table_base: u8) -> bool
     if is_when(ins, Class::Ldrb, AL) {
         let addr = ins.addr;
         if is_pre(addr, table_base) {
-            return shifted_right(addr);
+            return by_lsr(addr);
         }
     }
     false

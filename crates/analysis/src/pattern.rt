@@ -6,7 +6,7 @@ use classes::LdrStrOffset;
 use classes::Op2;
 use classes::ShiftOp;
 ghost use mathlib.Core.Path.{_≡_};
-ghost use Rattle.analysis.specs.Pattern.{isWhen, isData, isRegister, isLsl, isLsr, isScaled, isPre, offsetBy, byItself, isRight, shiftedRight};
+ghost use Rattle.analysis.specs.Pattern.{isWhen, isData, isRegister, isLsl, isLsr, isScaled, isPre, offsetBy, byItself, offsetByLsr, byLsr};
 
 pub const MI: u8 = 4;
 
@@ -157,9 +157,9 @@ pub fn by_itself(addr: AddrLdrStr) -> bool
     }
 }
 
-// An offset that is a register shifted right.
-pub fn shifted_right(addr: AddrLdrStr) -> bool
-    ensures { λ r. ⌜ r ≡ shiftedRight addr ⌝ }
+// An offset that is a register shifted by LSR.
+pub fn by_lsr(addr: AddrLdrStr) -> bool
+    ensures { λ r. ⌜ r ≡ byLsr addr ⌝ }
 {
     match addr {
         AddrLdrStr::Pre {
@@ -172,7 +172,7 @@ pub fn shifted_right(addr: AddrLdrStr) -> bool
 }
 
 fn right(offset: LdrStrOffset) -> bool
-    ensures { λ r. ⌜ r ≡ isRight offset ⌝ }
+    ensures { λ r. ⌜ r ≡ offsetByLsr offset ⌝ }
 {
     match offset {
         LdrStrOffset::Imm(_) => false,

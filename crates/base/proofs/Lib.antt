@@ -1,2 +1,3 @@
--- What the proofs of this crate share.
+-- What proofs share: two tests at once, and parts of the code.
+pub mod ChoiceLaws
 pub mod Parts

@@ -33,7 +33,7 @@ module _ (size : ℕ) (isCalled : Bool) (s : State) (l : World) where
   abbrev isEntry : Bool
   isEntry = isEntryAt (l .given .code) (l .given .options .base) end
 
-  pub long-branch : {block returns : Bool} → block ≡ false → returns ≡ true → Told size block returns isCalled s l
+  pub long-branch : {inside returns : Bool} → inside ≡ false → returns ≡ true → Told size inside returns isCalled s l
       → both (ltb end (s .progress .«last_pool_address»)) (both isCalled (not isEntry)) ≡ isLongBranchDestination end (contextOf s l)
   unfolding isLongBranchDestination asksCalls
   long-branch b r told = step (ltb end (s .progress .«last_pool_address»)) refl
@@ -61,19 +61,19 @@ chosen true false f label end call = refl
 chosen false o f label end call = refl
 
 abbrev isLast : Ins → Bool → Bool
-isLast i block = both (not (isConditional (i .cond))) (not block)
+isLast i inside = both (not (isConditional (i .cond))) (not inside)
 
-module _ (i : Ins) (word size : ℕ) (block label last : Bool) where
+module _ (i : Ins) (word size : ℕ) (inside label last : Bool) where
   -- where it goes by the code's tests
   abbrev goesBy : Context → Step
-  goesBy c = pick label (handleLabel i size block c) (pick last (ends (c .progress .address + size) c) (callTo i word arm c))
+  goesBy c = pick label (handleLabel i size inside c) (pick last (ends (c .progress .address + size) c) (callTo i word arm c))
 
   goes-by : (c : Context) {inModule : Bool} → inModule ≡ isIn (c .given .options .«module_start») (c .given .options .«module_end») (i .target)
-      → label ≡ both inModule (not (isOtherFunction i c)) → last ≡ both inModule (isLast i block) → branches i word size block c ≡ goesBy c
+      → label ≡ both inModule (not (isOtherFunction i c)) → last ≡ both inModule (isLast i inside) → branches i word size inside c ≡ goesBy c
   unfolding branches
   goes-by c {inModule} m e f =
       rw (← m)
-      (chosen inModule (isOtherFunction i c) (isLast i block) (handleLabel i size block c) (ends (c .progress .address + size) c) (callTo i word arm c)
+      (chosen inModule (isOtherFunction i c) (isLast i inside) (handleLabel i size inside c) (ends (c .progress .address + size) c) (callTo i word arm c)
       ∙ rw (← e, ← f))
 
 -- ---- branch, with the machine's next state in t
@@ -84,12 +84,12 @@ pub at-branch : (s : State) (size : ℕ) {t : State} {m : Machines} {labels pool
     → Held labelRow (t .counts .labels) labels × Held poolRow (t .counts .pools) pools × (t .progress .address + size < 2 ^ 32)
 at-branch s size e h = rw e h
 
-module _ (o : Options) (i : Ins) (s : State) (word size : ℕ) (block : Bool) (starts labels pools : List ℕ) {t : State}
+module _ (o : Options) (i : Ins) (s : State) (word size : ℕ) (inside : Bool) (starts labels pools : List ℕ) {t : State}
     (te : t ≡ machined (functionBranchTo (functionBranch (s .machines .«function_branch») i) (s .machines)) s) where
   abbrev world : List ℕ → World → World
   world x l = startsIn starts (optionsIn o (labelsIn x (poolsIn pools l)))
 
-  pub branch-not : {r : Stepped} → isBranch i ≡ false → r ≡ onwards t → Puts (world labels) (world labels) (branch i word size block) s r
+  pub branch-not : {r : Stepped} → isBranch i ≡ false → r ≡ onwards t → Puts (world labels) (world labels) (branch i word size inside) s r
   unfolding branch branched
   branch-not q re = λ l h. settled (rw (re, te, q) (record { stays = refl; call = refl; holds = h; says = refl }))
 
@@ -98,26 +98,26 @@ module _ (o : Options) (i : Ins) (s : State) (word size : ℕ) (block : Bool) (s
       both inModule (not (either (isFunctionBranch (t .machines .«function_branch»)) (stands-in (mapIn 1 (length starts) starts) (i .target))))
 
   module _ {r : Stepped} {inModule : Bool} (q : isBranch i ≡ true) (m : inModule ≡ isIn (o .«module_start») (o .«module_end») (i .target)) where
-    by : {after : List ℕ} {label last : Bool} → label ≡ isLabel inModule → last ≡ both inModule (isLast i block)
-        → Puts (world labels) (world after) (goesBy i word size block label last) t r
-        → Puts (world labels) (world after) (branch i word size block) s r
+    by : {after : List ℕ} {label last : Bool} → label ≡ isLabel inModule → last ≡ both inModule (isLast i inside)
+        → Puts (world labels) (world after) (goesBy i word size inside label last) t r
+        → Puts (world labels) (world after) (branch i word size inside) s r
     unfolding branch branched isOtherFunction
     by {label = label} {last} e f d = λ l h.
-        rw (q, rw te at (goes-by i word size block label last (contextOf t (world labels l)) m e f)) (rw te at (d l (rw te h)))
+        rw (q, rw te at (goes-by i word size inside label last (contextOf t (world labels l)) m e f)) (rw te at (d l (rw te h)))
 
     module _ {label : Bool} (e : label ≡ isLabel inModule) where
       pub branch-label : {after : List ℕ} → label ≡ true
-          → Does (λ l. labelsIn labels (poolsIn pools l)) (λ l. labelsIn after (poolsIn pools l)) (handleLabel i size block) t r
-          → Puts (world labels) (world after) (branch i word size block) s r
+          → Does (λ l. labelsIn labels (poolsIn pools l)) (λ l. labelsIn after (poolsIn pools l)) (handleLabel i size inside) t r
+          → Puts (world labels) (world after) (branch i word size inside) s r
       branch-label y d = by e refl (rw y (λ l h. settled (d (startsIn starts (optionsIn o l)) h)))
 
       module _ {conditional last : Bool} (n : label ≡ false) (ce : conditional ≡ isConditional (i .cond))
-          (f : last ≡ both inModule (both (not conditional) (not block))) where
+          (f : last ≡ both inModule (both (not conditional) (not inside))) where
         pub branch-end : last ≡ true → r ≡ record { then = Ends (s .progress .address + size); state = t }
-            → Puts (world labels) (world labels) (branch i word size block) s r
+            → Puts (world labels) (world labels) (branch i word size inside) s r
         branch-end y re =
             by e (rw ce at f)
             (rw (n, y) (λ l h. settled (rw (re, te) (record { stays = refl; call = refl; holds = rw te at h; says = refl }))))
 
-        pub branch-call : last ≡ false → Puts same same (callTo i word arm) t r → Puts (world labels) (world labels) (branch i word size block) s r
+        pub branch-call : last ≡ false → Puts same same (callTo i word arm) t r → Puts (world labels) (world labels) (branch i word size inside) s r
         branch-call z d = by e (rw ce at f) (rw (n, z) (λ l. d (world labels l)))

@@ -95,15 +95,15 @@ pub fn final_return(
     word: u32,
     size: u32,
     ins: Ins,
-    block: bool,
+    inside: bool,
     returns: bool,
     is_called_next: bool,
     code: &[u8],
 ) -> Stepped
     requires { ⌜ s .progress .address + size < 2 ^ 32 ⌝ }
-    ensures { λ r. ⌜ PutsIf (Told size block returns «is_called_next» s) (λ l. codeIn (now (code .entry)) (optionsIn o l)) (λ l. codeIn (now (code .entry)) (optionsIn o l)) (finalReturn ins word size block returns) s r ⌝ }
+    ensures { λ r. ⌜ PutsIf (Told size inside returns «is_called_next» s) (λ l. codeIn (now (code .entry)) (optionsIn o l)) (λ l. codeIn (now (code .entry)) (optionsIn o l)) (finalReturn ins word size inside returns) s r ⌝ }
 {
-    if block {
+    if inside {
         return assign::on(s);
     }
     if !returns {
@@ -130,8 +130,8 @@ pub fn final_return(
     assign::end(s, end)
 }
 
-fn is_entry_after_branch(p: Progress, ins: Ins, block: bool) -> bool
-    ensures { λ r. ⌜ r ≡ both (ltb (p .start) (p .address)) (both (isEntryInstruction ins) (both (p .previous .«is_branch») (either block (p .previous .«is_conditional»)))) ⌝ }
+fn is_entry_after_branch(p: Progress, ins: Ins, inside: bool) -> bool
+    ensures { λ r. ⌜ r ≡ both (ltb (p .start) (p .address)) (both (isEntryInstruction ins) (both (p .previous .«is_branch») (either inside (p .previous .«is_conditional»)))) ⌝ }
 {
     let previous = p.previous;
     if p.address <= p.start {
@@ -143,17 +143,17 @@ fn is_entry_after_branch(p: Progress, ins: Ins, block: bool) -> bool
     if !previous.is_branch {
         return false;
     }
-    if block {
+    if inside {
         return true;
     }
     previous.is_conditional
 }
 
-pub fn entry_after_branch(s: State, ins: Ins, block: bool) -> Stepped
-    ensures { λ r. ⌜ Does same same (entryAfterBranch ins block) s r ⌝ }
+pub fn entry_after_branch(s: State, ins: Ins, inside: bool) -> Stepped
+    ensures { λ r. ⌜ Does same same (entryAfterBranch ins inside) s r ⌝ }
 {
     let p = s.progress;
-    if is_entry_after_branch(p, ins, block) {
+    if is_entry_after_branch(p, ins, inside) {
         return assign::end(s, p.address);
     }
     assign::on(s)
@@ -185,8 +185,8 @@ fn is_label(s: State, ins: Ins, in_module: bool, starts: &[u32]) -> bool
 }
 
 // One to another function is the last instruction, where that is in the module and no condition passes the branch over.
-fn is_last(in_module: bool, conditional: bool, block: bool) -> bool
-    ensures { λ r. ⌜ r ≡ both «in_module» (both (not conditional) (not block)) ⌝ }
+fn is_last(in_module: bool, conditional: bool, inside: bool) -> bool
+    ensures { λ r. ⌜ r ≡ both «in_module» (both (not conditional) (not inside)) ⌝ }
 {
     if !in_module {
         return false;
@@ -194,22 +194,24 @@ fn is_last(in_module: bool, conditional: bool, block: bool) -> bool
     if conditional {
         return false;
     }
-    !block
+    !inside
 }
 
+// The label is asked for first and the end before the call, so that each arm stands once; the source asks for the module, another function and
+// the label in turn.
 pub fn branch(
     o: Options,
     s: State,
     word: u32,
     size: u32,
     ins: Ins,
-    block: bool,
+    inside: bool,
     starts: &[u32],
     labels: &mut [u32],
     pools: &[u32],
 ) -> Stepped
     requires { ⌜ Held 1 (length (now starts)) (now starts) × Held labelRow (s .counts .labels) (now labels) × Held poolRow (s .counts .pools) (now pools) × (s .progress .address + size < 2 ^ 32) ⌝ }
-    ensures { λ r. ⌜ Puts (λ l. startsIn (now (starts .entry)) (optionsIn o (labelsIn (now (labels .entry)) (poolsIn (now (pools .entry)) l)))) (λ l. startsIn (now (starts .entry)) (optionsIn o (labelsIn (now (labels .exit)) (poolsIn (now (pools .entry)) l)))) (branch ins word size block) s r ⌝ }
+    ensures { λ r. ⌜ Puts (λ l. startsIn (now (starts .entry)) (optionsIn o (labelsIn (now (labels .entry)) (poolsIn (now (pools .entry)) l)))) (λ l. startsIn (now (starts .entry)) (optionsIn o (labelsIn (now (labels .exit)) (poolsIn (now (pools .entry)) l)))) (branch ins word size inside) s r ⌝ }
 {
     let t = branched(s, ins);
     if !predicates::is_branch(ins) {
@@ -218,9 +220,9 @@ pub fn branch(
     let in_module = is_in(o.module_start, o.module_end, ins.target);
     let conditional = ins.is_conditional();
     if is_label(t, ins, in_module, starts) {
-        return handle_label(t, size, ins, block, labels, pools);
+        return handle_label(t, size, ins, inside, labels, pools);
     }
-    if is_last(in_module, conditional, block) {
+    if is_last(in_module, conditional, inside) {
         return assign::end(t, s.progress.address + size);
     }
     call_to(t, word, ins, ARM)

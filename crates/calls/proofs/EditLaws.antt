@@ -1,13 +1,13 @@
 -- What a change leaves of the records: turn by turn, the insert, and zeros.
 -- Assumes nothing.
 use mathlib.Core.Path.{_≡_, refl, sym, ap, _∙_}
-use mathlib.Core.Bool.{Bool, true, false}
+use mathlib.Core.Bool.{Bool, true, false, not}
 use mathlib.Core.List.{List, [], _∷_, _++_, map}
-use Prim.Native.Nat.{ℕ, zero, suc, _+_, _*_, _≤_, _<_}
+use Prim.Native.Nat.{ℕ, zero, suc, _+_, _*_, _≤_, _<_, zero-le}
 use native.Mathlib.Nat.{not-suc-le-zero, le-of-suc-le-suc}
 use native.Mathlib.Numerals.{add-one}
 use native.Mathlib.Omega.{arith}
-use borrow.Author.Tests.{leb-true, le-leb, lt-leb, ltb-true, ltb-false, lt-ltb, le-ltb}
+use borrow.Author.Tests.{leb-true, le-leb, lt-leb}
 use lib.Dec.{leb, ltb, eqb}
 use lib.ListN.{length, getD, set, take, drop, replicate, length-append, length-map, take-append-drop}
 use lib.Seq.{take-at, drop-at, drop-cons, length-take-le}
@@ -15,8 +15,8 @@ use Rattle.base.specs.Choice.{pick}
 use Rattle.context.specs.Context.{callRow}
 use Rattle.rows.specs.Order.{ascending, zeros}
 use Rattle.rows.specs.Rows.{rank, stands, inserted}
-use Rattle.rows.specs.Map.{keyOf, flat, mapIn, Held, fits, Entering}
-use Rattle.rows.proofs.OrderLaws.{both-first, both-second}
+use Rattle.rows.specs.Map.{keyOf, flat, mapIn, Held, Entering}
+use Rattle.base.proofs.ChoiceLaws.{both-first, both-second}
 use Rattle.rows.proofs.RowLaws.{stands-within, inserted-length, ascending-kept}
 use Rattle.rows.proofs.MapLaws.{held-in-order, in-order-held}
 use Rattle.calls.specs.declared.Call.{Call}
@@ -28,17 +28,15 @@ use Rattle.calls.proofs.ToldLaws.{zeros-more}
 
 -- ---- turn by turn
 
-pub rewritten-none : (moves : Bool) (call : Call) (i : ℕ) (cs : List Call) → rewritten moves call i 0 cs ≡ cs
-unfolding rewritten
-rewritten-none moves call i [] = refl
-rewritten-none moves call i (c ∷ cs) = refl
-
 pub rewritten-end : (moves : Bool) (call : Call) (i e : ℕ) (cs : List Call) → e ≤ i → rewritten moves call i e cs ≡ cs
 unfolding rewritten
 rewritten-end moves call i e [] h = refl
 rewritten-end moves call i zero (c ∷ cs) h = refl
 rewritten-end moves call zero (suc e) (c ∷ cs) h = absurd (not-suc-le-zero h)
 rewritten-end moves call (suc i) (suc e) (c ∷ cs) h = ap (λ r. c ∷ r) (rewritten-end moves call i e cs (le-of-suc-le-suc h))
+
+pub rewritten-none : (moves : Bool) (call : Call) (i : ℕ) (cs : List Call) → rewritten moves call i 0 cs ≡ cs
+rewritten-none moves call i cs = rewritten-end moves call i 0 cs zero-le
 
 -- there is nothing past the last record
 pub rewritten-past : (moves : Bool) (call : Call) (i e : ℕ) (cs : List Call) → length cs ≤ e → rewritten moves call i (length cs) cs ≡ rewritten moves call i e cs
@@ -157,21 +155,6 @@ module _ (calls : List Call) (call : Call) {n : ℕ} (h : Held callRow n (number
   grown : length (inserted keyOf (rowOf call) m) ≡ count
   grown = inserted-length keyOf (rowOf call) m ∙ rw long
 
-  pub last-within : held ≡ true → at < length calls
-  last-within s = omega (arith, stands-within keyOf (call .address) m s, long, many)
-
-  -- it fits exactly where the last place that is written is there
-  fits-is : fits callRow (length (numbersOf calls)) (inserted keyOf (rowOf call) m) ≡ ltb (pick held at n) (length calls)
-  fits-is = rw (grown, numbers-length calls) (step held refl)
-    where
-      step : (b : Bool) → held ≡ b → leb (pick b n (suc n) * callRow) (length calls * callRow) ≡ ltb (pick b at n) (length calls)
-      step true s = rw (le-leb (n * callRow) (length calls * callRow) (omega (arith, many)), lt-ltb at (length calls) (last-within s))
-      step false s = more (ltb n (length calls)) refl
-        where
-          more : (b : Bool) → ltb n (length calls) ≡ b → leb (suc n * callRow) (length calls * callRow) ≡ b
-          more true l = let less = ltb-true n (length calls) l in le-leb (suc n * callRow) (length calls * callRow) (omega arith)
-          more false l = let most = ltb-false n (length calls) l in lt-leb (suc n * callRow) (length calls * callRow) (omega arith)
-
   sorted : follows n calls ≡ true
   sorted = both-second (leb n (length calls)) _ (sym (order-is n calls) ∙ held-in-order h)
 
@@ -185,11 +168,11 @@ module _ (calls : List Call) (call : Call) {n : ℕ} (h : Held callRow n (number
       ∙ both-second (ascending (map keyOf m)) _ sorted)
 
   pub enters-not : length calls ≤ pick held at n → Entering callRow n (numbersOf calls) (rowOf call) (record { full = true; count = n }) (numbersOf calls)
-  enters-not full = record {
-    held = h;
-    says = rw (is-map, fits-is, le-ltb (pick held at n) (length calls) full);
-    leaves = refl;
-  }
+  enters-not full = record { held = h; says = rw (is-map, grown, numbers-length calls) (step held refl full); leaves = refl }
+    where
+      step : (b : Bool) → held ≡ b → length calls ≤ pick b at n → true ≡ not (leb (pick b n (suc n) * callRow) (length calls * callRow))
+      step true s l = absurd (omega (arith, stands-within keyOf (call .address) m s, long, many, l))
+      step false s l = rw (lt-leb (suc n * callRow) (length calls * callRow) (omega (arith, l)))
 
   pub enters : pick held at n < length calls
       → Entering callRow n (numbersOf calls) (rowOf call) (record { full = false; count = count }) (numbersOf after)
@@ -204,7 +187,7 @@ module _ (calls : List Call) (call : Call) {n : ℕ} (h : Held callRow n (number
       let rises : ascending (map keyOf (rowsIn count after)) ≡ true = rw fresh (ascending-kept keyOf (rowOf call) m (both-first _ _ sorted)) in
       record {
         held = in-order-held (omega arith) (order-is count after ∙ rw (le-leb count (length after) within, rises, rest) (behind held room));
-        says = rw (is-map, fits-is, lt-ltb (pick held at n) (length calls) room);
+        says = rw (is-map, grown, numbers-length calls, le-leb (count * callRow) (length calls * callRow) (omega (arith, within, rewritten-length true call at (suc (pick held at n)) calls)));
         leaves = rows-in count after within ∙ fresh ∙ ap (inserted keyOf (rowOf call)) (sym is-map);
       }
 
@@ -218,20 +201,11 @@ module _ (t : Told) (call : Call) (calls : List Call) (n : ℕ) (w : Tells calls
   pub full-is : t .places ≤ last → Entering callRow n (numbersOf calls) (rowOf call) (record { full = true; count = t .count }) (numbersOf calls)
   full-is l = rw (w .counts) (enters-not calls call h (omega (arith, last-is, w .places, l)))
 
-  module _ (l : last < t .places) where
-    in-room : pick (held calls call h) (at calls call h) n < length calls
-    in-room = omega (arith, last-is, w .places, l)
-
-    pub held-is : t .«is_held» ≡ true
-        → Entering callRow n (numbersOf calls) (rowOf call) (record { full = false; count = t .count }) (numbersOf (rewritten true call (t .at) (last + 1) calls))
-    held-is s =
-        let stand : held calls call h ≡ true = sym (w .held) ∙ s in
-        let same : last ≡ at calls call h = last-is ∙ rw stand in
-        rw (w .counts, w .place, same, add-one) (rw stand at (enters calls call h in-room))
-
-    pub new-is : t .«is_held» ≡ false
-        → Entering callRow n (numbersOf calls) (rowOf call) (record { full = false; count = last + 1 }) (numbersOf (rewritten true call (t .at) (last + 1) calls))
-    new-is s =
-        let stand : held calls call h ≡ false = sym (w .held) ∙ s in
-        let same : last ≡ n = last-is ∙ rw stand in
-        rw (w .place, same, add-one) (rw stand at (enters calls call h in-room))
+  pub room-is : last < t .places
+      → Entering callRow n (numbersOf calls) (rowOf call) (record { full = false; count = pick (t .«is_held») (t .count) (last + 1) }) (numbersOf (rewritten true call (t .at) (last + 1) calls))
+  room-is l =
+      rw (add-one, w .counts, w .place, w .held, last-is, same (held calls call h)) (enters calls call h (omega (arith, last-is, w .places, l)))
+    where
+      same : (b : Bool) → pick b n (suc (pick b (at calls call h) n)) ≡ pick b n (suc n)
+      same true = refl
+      same false = refl

@@ -1,3 +1,4 @@
+pub mod Prelude
 pub mod RecordLaws
 pub mod ToldLaws
 pub mod EditLaws

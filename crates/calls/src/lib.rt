@@ -123,6 +123,16 @@ fn last_of(t: Told) -> usize
     t.count
 }
 
+// How many calls there are once a place up to `end` is written.
+fn count_of(t: Told, end: usize) -> usize
+    ensures { λ r. ⌜ r ≡ pick (t .«is_held») (t .count) end ⌝ }
+{
+    if t.is_held {
+        return t.count;
+    }
+    end
+}
+
 // A call from the address that was asked for is entered: it replaces the one that stands there, or needs a free place.
 pub fn enter(t: Told, call: Call) -> Entry
     ensures { λ r. ⌜ Enters t call r ⌝ }
@@ -138,27 +148,17 @@ pub fn enter(t: Told, call: Call) -> Entry
         };
     }
     let end = last + 1;
-    let edit = Edit {
-        from: t.at,
-        end,
-        call,
-        moves: true,
-    };
-    if t.is_held {
-        return Entry {
-            entered: Entered {
-                full: false,
-                count: t.count,
-            },
-            edit,
-        };
-    }
     Entry {
         entered: Entered {
             full: false,
-            count: end,
+            count: count_of(t, end),
         },
-        edit,
+        edit: Edit {
+            from: t.at,
+            end,
+            call,
+            moves: true,
+        },
     }
 }
 

@@ -14,6 +14,7 @@ use Rattle.rows.specs.Rows.{inserted}
 use Rattle.rows.proofs.RowLaws.{inserted-length}
 use Rattle.rows.specs.Map.{keyOf, mapIn, Held, fits, Entering}
 use Rattle.rows.specs.declared.Entered.{Entered}
+use Rattle.registers.specs.declared.Registers.{Registers}
 use Rattle.walk.specs.declared.Counts.{Counts}
 use Rattle.context.specs.declared.Put.{Put}
 use Rattle.context.specs.declared.Put.the-variants.{Nothing, Call}
@@ -23,7 +24,7 @@ use Rattle.context.specs.declared.Then.{Then}
 use Rattle.context.specs.declared.Then.the-variants.{On, Goes, Ends, Refuses}
 use Rattle.context.specs.Context.{Context, Maps, Step, on, goes, ends, refuses, _▸_, entered, withMaps, callRow, labelRow, poolRow, tableRow}
 use Rattle.context.specs.Blocks.{callTo}
-use Rattle.context.specs.State.{World, Holds, Settles, Comes, contextOf, called, read, isOn, placed, hasPlace, putting, labelsIn, poolsIn, jumpTablesIn, inlineTablesIn, countLabels, countPools, countJumpTables, countInlineTables}
+use Rattle.context.specs.State.{World, Holds, Settles, Comes, contextOf, called, read, isOn, placed, hasPlace, putting, labelsIn, poolsIn, jumpTablesIn, inlineTablesIn, registersIn, countLabels, countPools, countJumpTables, countInlineTables}
 use Rattle.arm.specs.declared.Ins.{Ins}
 
 -- ---- insertions
@@ -95,6 +96,19 @@ module _ {n : Counts} (l : World) {x : ℕ} {before after : List ℕ} where
     jumpTablePlaces = h .jumpTablePlaces;
     inlineTablePlaces = long ∙ h .inlineTablePlaces;
   }
+
+-- the registers are in no slice
+pub registers-held : {n : Counts} {l : World} (g : Registers) → Holds n l → Holds n (registersIn g l)
+registers-held g h = record {
+  labels = h .labels;
+  pools = h .pools;
+  «jump_tables» = h .«jump_tables»;
+  «inline_tables» = h .«inline_tables»;
+  labelPlaces = h .labelPlaces;
+  poolPlaces = h .poolPlaces;
+  jumpTablePlaces = h .jumpTablePlaces;
+  inlineTablePlaces = h .inlineTablePlaces;
+}
 
 -- ---- a block that puts no call
 

@@ -1,4 +1,5 @@
--- functions.rs: `handle_ins` and `handle_label`, block by block, in the source's order. Each block has the source's line or condition above it.
+-- functions.rs: `handle_ins` and `handle_label`, block by block, in the source's order. Each block has the source's line or condition above it,
+-- and behind what it asks and does. `i` is the instruction, `size` its bytes, `inside` is in_conditional_block, `returns` is is_return.
 -- Assumes nothing.
 use mathlib.Core.Bool.{Bool, true, false, not}
 use mathlib.Core.List.{List, [], _∷_}
@@ -61,7 +62,7 @@ call = 1
 unfoldable pub isIn : ℕ → ℕ → ℕ → Bool
 isIn from to a = pick (ltb a from) false (ltb a to)
 
--- ---- the start of handle_ins_inner
+-- ---- data among the instructions
 
 -- if self.pool_constants.contains_key(&address)
 unfoldable pub skipPool : Context → Step
@@ -86,7 +87,7 @@ skipsTo (some table) c = pick (ltb (endOf table) 0x1_0000_0000) (goes (goingTo (
 unfoldable pub skipInlineTable : Context → Step
 skipInlineTable c = skipsTo (inlineTableAt (c .progress .address) (c .maps .«inline_tables»)) c
 
--- ---- what the source asks and does without the instruction
+-- ---- the jump table
 
 -- if let Some(table_end_address) = self.jump_table_state.table_end_address()
 abbrev pub raisedToTable : TableEnd → Context → Step
@@ -94,24 +95,69 @@ raisedToTable (E-At end) c = on (withProgress (tableTo end (raising end (c .prog
 raisedToTable E-Nothing c = on c
 raisedToTable E-Refused c = refuses beyond32Bits 0
 
+module _ (i : Ins) where
+  -- self.jump_table_state = self.jump_table_state.handle(..)
+  abbrev pub afterJump : JumpTableAnswer → Context → Step
+  afterJump (J-Next s) c = raisedToTable (tableEnd s) (withMachines (jumpTableTo s (c .machines)) c)
+  afterJump (J-Found s t) c =
+      enterJumpTable (t .address ∷ t .size ∷ []) (withMachines (jumpTableTo s (c .machines)) c) ▸ raisedToTable (tableEnd s)
+  afterJump J-Refused c = refuses beyond32Bits 0
+
+  unfoldable pub jumpTable : Context → Step
+  jumpTable c = afterJump (jumpMachine (c .machines .«jump_table») (c .progress .address) i) c
+
+-- get_labels and is_numerical_jump_offset are Thumb's
+
+-- ---- illegal code, and a branch out of the program. The functions found before (an empty map here) have no part in it
+
 -- if let IllegalCodeState::Illegal { reason } = ..
 abbrev pub afterCode : IllegalCodeState → Context → Step
 afterCode Start c = on c
 afterCode (ShiftedRegisterValue r) c = on c
 afterCode (Illegal reason) c = refuses reason 0
 
+-- with the machine's next state
 abbrev pub coded : IllegalCodeState → Context → Step
 coded s c = afterCode s (withMachines (illegalCodeTo s (c .machines)) c)
 
--- pool_constants.get_mut(pool_address).usage = PoolConstantUsage::Call
+module _ (i : Ins) where
+  -- self.illegal_code_state = self.illegal_code_state.handle(..)
+  unfoldable pub illegalCode : Context → Step
+  illegalCode c = coded (codeMachine (c .machines .«illegal_code») i) c
+
+  -- if !(0x01ff8000..0x03000000).contains(&destination)
+  unfoldable pub branchOutside : Context → Step
+  branchOutside c = pick (both (isBranch i) (not (isIn 0x01FF_8000 0x0300_0000 (i .target)))) (refuses outside 0) (on c)
+
+-- ---- the registers
+
+-- pool_constants.get_mut(pool_address).usage = PoolConstantUsage::Call; the checks before a step see to it that the pool is there
 unfoldable pub marked : ℕ → List (List ℕ) → List (List ℕ)
 marked a m = pick (stands keyOf a m) (inserted keyOf (a ∷ getD (getD m (rank keyOf a m) []) 1 0 ∷ call ∷ []) m) m
+
+module _ (i : Ins) where
+  -- Ins::Bx { cond: Cond::Al, rm }: the pool word that the register came from
+  unfoldable pub markPool : Context → Step
+  markPool c =
+      pick (both (isBx i) (not (eqb (sourceOf (c .registers) (i .rm)) 0)))
+      (on (withMaps (poolsTo (marked (sourceOf (c .registers) (i .rm)) (c .maps .pools)) (c .maps)) c))
+      (on c)
+
+  -- for def in ins.defs()
+  unfoldable pub forgetWritten : Context → Step
+  forgetWritten c = on (withRegisters (forgotten (c .registers) (i .defs)) c)
+
+  -- handle_ins_inner up to here
+  unfoldable pub toReturn : Context → Step
+  toReturn c = skipPool c ▸ skipInlineTable ▸ jumpTable i ▸ illegalCode i ▸ branchOutside i ▸ markPool ▸ forgetWritten
+
+-- ---- the return
 
 -- let in_conditional_block
 unfoldable pub inConditionalBlock : Context → Bool
 inConditionalBlock c = ltb (c .progress .address) (c .progress .«last_conditional_destination»)
 
--- function_calls.values().any(|called| called.address == address)
+-- is_long_branch_destination: function_calls.values().any(|called| called.address == address)
 unfoldable pub isDestination : ℕ → List (List ℕ) → Bool
 isDestination a [] = false
 isDestination a (r ∷ rs) = pick (eqb (getD r 2 0) a) true (isDestination a rs)
@@ -130,48 +176,7 @@ isLongBranchDestination a c =
     both (ltb a (c .progress .«last_pool_address»))
     (both (isDestination a (c .maps .calls)) (not (isEntryAt (c .given .code) (c .given .options .base) a)))
 
--- handle_label: (next_address..).step_by(4).find(..)
-abbrev pub pastGap : Gap → Context → Step
-pastGap (G-At after) c = on (goingTo after c)
-pastGap G-Beyond c = refuses beyond32Bits 0
-
--- if let Some(table) = self.inline_table_state.get_table()
-abbrev pub tabled : FoundTable → Context → Step
-tabled (Table t) c = enterInlineTable (t .address ∷ t .size ∷ []) c
-tabled No-Table c = on c
-
 module _ (i : Ins) where
-  -- self.jump_table_state = self.jump_table_state.handle(..)
-  abbrev pub afterJump : JumpTableAnswer → Context → Step
-  afterJump (J-Next s) c = raisedToTable (tableEnd s) (withMachines (jumpTableTo s (c .machines)) c)
-  afterJump (J-Found s t) c =
-      enterJumpTable (t .address ∷ t .size ∷ []) (withMachines (jumpTableTo s (c .machines)) c) ▸ raisedToTable (tableEnd s)
-  afterJump J-Refused c = refuses beyond32Bits 0
-
-  unfoldable pub jumpTable : Context → Step
-  jumpTable c = afterJump (jumpMachine (c .machines .«jump_table») (c .progress .address) i) c
-
-  -- self.illegal_code_state = self.illegal_code_state.handle(..)
-  unfoldable pub illegalCode : Context → Step
-  illegalCode c = coded (codeMachine (c .machines .«illegal_code») i) c
-
-  -- if !(0x01ff8000..0x03000000).contains(&destination)
-  unfoldable pub branchOutside : Context → Step
-  branchOutside c = pick (both (isBranch i) (not (isIn 0x01FF_8000 0x0300_0000 (i .target)))) (refuses outside 0) (on c)
-
-  -- Ins::Bx { cond: Cond::Al, rm }: the pool word that the register came from
-  unfoldable pub markPool : Context → Step
-  markPool c =
-      pick (both (isBx i) (not (eqb (sourceOf (c .registers) (i .rm)) 0)))
-      (on (withMaps (poolsTo (marked (sourceOf (c .registers) (i .rm)) (c .maps .pools)) (c .maps)) c))
-      (on c)
-
-  -- for def in ins.defs()
-  unfoldable pub forgetWritten : Context → Step
-  forgetWritten c = on (withRegisters (forgotten (c .registers) (i .defs)) c)
-
-  -- ---- the rest of it, from in_conditional_block and is_return on
-
   -- function_calls.insert(address, CalledFunction { .. })
   abbrev pub callTo : ℕ → ℕ → Context → Step
   callTo word mode c = enterCall (c .progress .address ∷ word ∷ i .target ∷ mode ∷ []) c
@@ -182,8 +187,8 @@ module _ (i : Ins) where
 
   -- if !in_conditional_block && is_return
   unfoldable pub finalReturn : ℕ → ℕ → Bool → Bool → Context → Step
-  finalReturn word size block returns c =
-      pick (both (not block) returns)
+  finalReturn word size inside returns c =
+      pick (both (not inside) returns)
       (pick (isLongBranchDestination (c .progress .address + size) c)
       (on (withProgress (raising (c .progress .address + size) (c .progress)) c))
       (pick (isTailCall size c) (callTo word arm c) (on c) ▸ ends (c .progress .address + size)))
@@ -191,15 +196,32 @@ module _ (i : Ins) where
 
   -- if address > self.start_address && Function::is_entry_instruction(ins) && .. prev_ins ..
   unfoldable pub entryAfterBranch : Bool → Context → Step
-  entryAfterBranch block c =
+  entryAfterBranch inside c =
       pick
       (both (ltb (c .progress .start) (c .progress .address))
       (both (isEntryInstruction i)
-      (both (c .progress .previous .«is_branch») (either block (c .progress .previous .«is_conditional»)))))
+      (both (c .progress .previous .«is_branch») (either inside (c .progress .previous .«is_conditional»)))))
       (ends (c .progress .address) c)
       (on c)
 
-  -- self.labels.range(parser.pc()..).next(); else if !branch_backwards
+-- ---- handle_label
+
+module _ (i : Ins) where
+  -- if in_conditional_block || ins.is_conditional() || is_table_jump
+  unfoldable pub raisesLabel : Bool → Context → Bool
+  raisesLabel inside c = either inside (either (isConditional (i .cond)) (ltb (c .progress .address) (c .progress .«jump_table_end_address»)))
+
+  -- last_conditional_destination.max(Some(destination))
+  unfoldable pub labelRaised : Bool → Context → Context
+  labelRaised inside c = pick (raisesLabel inside c) (withProgress (raising (i .target) (c .progress)) c) c
+
+-- (next_address..).step_by(4).find(..); pools that run to the end of 32 bits are none that the checks before a step let pass
+abbrev pub pastGap : Gap → Context → Step
+pastGap (G-At after) c = on (goingTo after c)
+pastGap G-Beyond c = refuses beyond32Bits 0
+
+module _ (i : Ins) where
+  -- self.labels.range(parser.pc()..).next(); else if !branch_backwards; else
   abbrev pub toLabel : ℕ → Found → Context → Step
   toLabel size (F-At k) c = on (goingTo (keyOf (getD (c .maps .labels) k [])) c)
   toLabel size F-Missing c =
@@ -207,42 +229,41 @@ module _ (i : Ins) where
       (ends (c .progress .address + size) c)
       (pastGap (gapFrom (stands-in (c .maps .pools)) (c .progress .address + size)) c)
 
-  -- if self.pool_constants.contains_key(&next_address)
+  -- if self.pool_constants.contains_key(&next_address); c .next is parser.pc()
   unfoldable pub pastPools : ℕ → Context → Step
   pastPools size c = pick (stands-in (c .maps .pools) (c .progress .address + size)) (toLabel size (atOrAbove (c .next) (c .maps .labels)) c) (on c)
 
-  -- if in_conditional_block || ins.is_conditional() || is_table_jump
-  unfoldable pub raisesLabel : Bool → Context → Bool
-  raisesLabel block c = either block (either (isConditional (i .cond)) (ltb (c .progress .address) (c .progress .«jump_table_end_address»)))
-
-  unfoldable pub labelRaised : Bool → Context → Context
-  labelRaised block c = pick (raisesLabel block c) (withProgress (raising (i .target) (c .progress)) c) c
-
-  -- handle_label
+  -- self.labels.insert(destination); the raise; the jump past pools
   unfoldable pub handleLabel : ℕ → Bool → Context → Step
-  handleLabel size block c = enterLabel (i .target ∷ []) c ▸ (λ c. pastPools size (labelRaised block c))
+  handleLabel size inside c = enterLabel (i .target ∷ []) c ▸ (λ c. pastPools size (labelRaised i inside c))
+
+-- ---- the branch
+
+module _ (i : Ins) where
+  -- self.function_branch_state = self.function_branch_state.handle(ins)
+  unfoldable pub branched : Context → Context
+  branched c = withMachines (functionBranchTo (functionBranch (c .machines .«function_branch») i) (c .machines)) c
 
   -- is_function_branch() || existing_functions.contains_key(&destination)
   unfoldable pub isOtherFunction : Context → Bool
   isOtherFunction c = either (isFunctionBranch (c .machines .«function_branch»)) (stands-in (c .given .starts) (i .target))
 
-  -- in_current_module; the other function; the label
+  -- in_current_module: another function's, where the branch ends this one or is a call, or a label; out of the module a call
   unfoldable pub branches : ℕ → ℕ → Bool → Context → Step
-  branches word size block c =
+  branches word size inside c =
       pick (isIn (c .given .options .«module_start») (c .given .options .«module_end») (i .target))
       (pick (isOtherFunction c)
-      (pick (both (not (isConditional (i .cond))) (not block)) (ends (c .progress .address + size) c) (callTo word arm c))
-      (handleLabel size block c))
-      (callTo word arm c)
-
-  -- self.function_branch_state = self.function_branch_state.handle(ins)
-  unfoldable pub branched : Context → Context
-  branched c = withMachines (functionBranchTo (functionBranch (c .machines .«function_branch») i) (c .machines)) c
+      (pick (both (not (isConditional (i .cond))) (not inside)) (ends (c .progress .address + size) c) (callTo i word arm c))
+      (handleLabel i size inside c))
+      (callTo i word arm c)
 
   -- if let Some(destination) = Function::is_branch(ins)
   unfoldable pub branch : ℕ → ℕ → Bool → Context → Step
-  branch word size block c = pick (isBranch i) (branches word size block (branched c)) (on (branched c))
+  branch word size inside c = pick (isBranch i) (branches word size inside (branched c)) (on (branched c))
 
+-- ---- the pool load
+
+module _ (i : Ins) where
   -- register_values[register] = ..; pool_constants.insert(..); last_pool_address = ..
   abbrev pub loaded : ℕ → Word → Context → Step
   loaded a Missing c = refuses poolOutside 0
@@ -257,6 +278,14 @@ module _ (i : Ins) where
       (loaded (poolAddress (c .progress .address) i) (wordFrom (c .given .code) (c .given .options .base) (poolAddress (c .progress .address) i)) c)
       (on c)
 
+-- ---- the inline table
+
+-- if let Some(table) = self.inline_table_state.get_table()
+abbrev pub tabled : FoundTable → Context → Step
+tabled (Table t) c = enterInlineTable (t .address ∷ t .size ∷ []) c
+tabled No-Table c = on c
+
+module _ (i : Ins) where
   -- self.inline_table_state = self.inline_table_state.handle(..)
   abbrev pub afterInline : InlineTableAnswer → Context → Step
   afterInline (T-Next s) c = tabled (tableOf s) (withMachines (inlineTableTo s (c .machines)) c)
@@ -265,11 +294,14 @@ module _ (i : Ins) where
   unfoldable pub inlineTable : Context → Step
   inlineTable c = afterInline (inlineMachine (c .machines .«inline_table») false (c .progress .address) i) c
 
+-- ---- the call, and the check of registers. Encrypted ranges (none here) have no part in it
+
+module _ (i : Ins) where
   -- if let Some(called_function) = Function::is_function_call(..)
   abbrev pub calledAs : ℕ → Callee → Context → Step
   calledAs word No-Call c = on c
-  calledAs word Arm c = callTo word arm c
-  calledAs word Thumb c = callTo word thumb c
+  calledAs word Arm c = callTo i word arm c
+  calledAs word Thumb c = callTo i word thumb c
 
   unfoldable pub functionCall : ℕ → Context → Step
   functionCall word c = calledAs word (calledBy i) c
@@ -283,20 +315,19 @@ module _ (i : Ins) where
   unfoldable pub checkDefined : Bool → Context → Step
   checkDefined returns c = checkedBy (undefinedRegister (c .given .options .check) (c .progress .«defined_registers») i) returns c
 
-  -- ---- handle_ins_inner, and handle_ins
+-- ---- handle_ins_inner, and handle_ins
 
-  -- with in_conditional_block and is_return
+module _ (i : Ins) where
+  -- the rest of handle_ins_inner, with in_conditional_block and is_return as they were before it
   unfoldable pub fromReturn : ℕ → ℕ → Bool → Bool → Context → Step
-  fromReturn word size block returns c =
-      finalReturn word size block returns c ▸ entryAfterBranch block ▸ branch word size block ▸ poolLoad ▸ inlineTable ▸ functionCall word
-      ▸ checkDefined returns ▸ goes
+  fromReturn word size inside returns c =
+      finalReturn i word size inside returns c ▸ entryAfterBranch i inside ▸ branch i word size inside ▸ poolLoad i ▸ inlineTable i ▸ functionCall i word
+      ▸ checkDefined i returns ▸ goes
 
-  unfoldable pub toReturn : Context → Step
-  toReturn c = skipPool c ▸ skipInlineTable ▸ jumpTable ▸ illegalCode ▸ branchOutside ▸ markPool ▸ forgetWritten
-
+  -- handle_ins_inner
   unfoldable pub handleInsInner : ℕ → ℕ → Context → Step
   handleInsInner word size c =
-      toReturn c ▸ (λ c. fromReturn word size (inConditionalBlock c) (isReturn (c .progress .address) i (c .progress .previous)) c)
+      toReturn i c ▸ (λ c. fromReturn word size (inConditionalBlock c) (isReturn (c .progress .address) i (c .progress .previous)) c)
 
   -- self.prev_ins = Some(ins), and the next turn is at the parser's address
   abbrev pub passed : Step → Step
@@ -305,5 +336,6 @@ module _ (i : Ins) where
   passed (ends a c) = ends a c
   passed (refuses n r) = refuses n r
 
+  -- handle_ins: the parser has passed the instruction, so its address is the next one's
   unfoldable pub handleIns : ℕ → ℕ → Context → Step
   handleIns word size c = passed (handleInsInner word size (goingTo (c .progress .address + size) c))

@@ -7,16 +7,19 @@ use Prim.Native.Nat.{ℕ, _+_}
 use lib.Dec.{ltb}
 use lib.ListN.{length}
 use Rattle.arm.specs.declared.Ins.{Ins}
-use Rattle.base.specs.Choice.{both}
+use Rattle.base.specs.Choice.{pick, both}
 use Rattle.base.specs.Refusals.{listFull}
 use Rattle.predicates.specs.Predicates.{asPrevious}
 use Rattle.registers.specs.declared.Registers.{Registers}
+use Rattle.registers.specs.Registers.{forgotten, holding}
 use Rattle.rows.specs.Rows.{inserted}
 use Rattle.rows.specs.Map.{keyOf, mapIn, Held, fits}
 use Rattle.walk.specs.declared.Counts.{Counts}
 use Rattle.walk.specs.declared.Machines.{Machines}
 use Rattle.walk.specs.declared.Options.{Options}
 use Rattle.walk.specs.declared.Progress.{Progress}
+use Rattle.context.specs.declared.Load.{Load}
+use Rattle.context.specs.declared.Load.the-variants.{Nothing as L-Nothing, Word as L-Word}
 use Rattle.context.specs.declared.Put.{Put}
 use Rattle.context.specs.declared.Put.the-variants.{Nothing, Call}
 use Rattle.context.specs.declared.State.{State}
@@ -29,22 +32,19 @@ use Rattle.context.specs.Context.{Context, Given, Step, on, goes, ends, 
 -- ---- assignments to a state
 
 abbrev pub headed : ℕ → State → State
-headed a s = record { next = a; progress = s .progress; machines = s .machines; registers = s .registers; counts = s .counts; call = s .call }
+headed a s = record { next = a; progress = s .progress; machines = s .machines; counts = s .counts; call = s .call }
 
 abbrev pub progressed : Progress → State → State
-progressed p s = record { next = s .next; progress = p; machines = s .machines; registers = s .registers; counts = s .counts; call = s .call }
+progressed p s = record { next = s .next; progress = p; machines = s .machines; counts = s .counts; call = s .call }
 
 abbrev pub machined : Machines → State → State
-machined m s = record { next = s .next; progress = s .progress; machines = m; registers = s .registers; counts = s .counts; call = s .call }
-
-abbrev pub registered : Registers → State → State
-registered r s = record { next = s .next; progress = s .progress; machines = s .machines; registers = r; counts = s .counts; call = s .call }
+machined m s = record { next = s .next; progress = s .progress; machines = m; counts = s .counts; call = s .call }
 
 abbrev pub counted : Counts → State → State
-counted n s = record { next = s .next; progress = s .progress; machines = s .machines; registers = s .registers; counts = n; call = s .call }
+counted n s = record { next = s .next; progress = s .progress; machines = s .machines; counts = n; call = s .call }
 
 abbrev pub putting : Put → State → State
-putting k s = record { next = s .next; progress = s .progress; machines = s .machines; registers = s .registers; counts = s .counts; call = k }
+putting k s = record { next = s .next; progress = s .progress; machines = s .machines; counts = s .counts; call = k }
 
 abbrev pub countLabels : ℕ → Counts → Counts
 countLabels x n = record { labels = x; pools = n .pools; «jump_tables» = n .«jump_tables»; «inline_tables» = n .«inline_tables»; calls = n .calls }
@@ -61,7 +61,8 @@ countInlineTables x n = record { labels = n .labels; pools = n .pools; «jump_ta
 abbrev pub countCalls : ℕ → Counts → Counts
 countCalls x n = record { labels = n .labels; pools = n .pools; «jump_tables» = n .«jump_tables»; «inline_tables» = n .«inline_tables»; calls = x }
 
--- ---- what a block works on beside the state: four lent slices, and the calls as a map, since a host may lend them in another form
+-- ---- what a block works on beside the state: what is given, four lent slices, the calls as a map, since a host may lend them in another form,
+-- ---- and the registers
 
 pub record World : Type 0 where
   pub given : Given
@@ -70,21 +71,25 @@ pub record World : Type 0 where
   pub «jump_tables» : List ℕ
   pub «inline_tables» : List ℕ
   pub calls : List (List ℕ)
+  pub registers : Registers
 
 abbrev pub labelsIn : List ℕ → World → World
-labelsIn x l = record { given = l .given; labels = x; pools = l .pools; «jump_tables» = l .«jump_tables»; «inline_tables» = l .«inline_tables»; calls = l .calls }
+labelsIn x l = record { given = l .given; labels = x; pools = l .pools; «jump_tables» = l .«jump_tables»; «inline_tables» = l .«inline_tables»; calls = l .calls; registers = l .registers }
 
 abbrev pub poolsIn : List ℕ → World → World
-poolsIn x l = record { given = l .given; labels = l .labels; pools = x; «jump_tables» = l .«jump_tables»; «inline_tables» = l .«inline_tables»; calls = l .calls }
+poolsIn x l = record { given = l .given; labels = l .labels; pools = x; «jump_tables» = l .«jump_tables»; «inline_tables» = l .«inline_tables»; calls = l .calls; registers = l .registers }
 
 abbrev pub jumpTablesIn : List ℕ → World → World
-jumpTablesIn x l = record { given = l .given; labels = l .labels; pools = l .pools; «jump_tables» = x; «inline_tables» = l .«inline_tables»; calls = l .calls }
+jumpTablesIn x l = record { given = l .given; labels = l .labels; pools = l .pools; «jump_tables» = x; «inline_tables» = l .«inline_tables»; calls = l .calls; registers = l .registers }
 
 abbrev pub inlineTablesIn : List ℕ → World → World
-inlineTablesIn x l = record { given = l .given; labels = l .labels; pools = l .pools; «jump_tables» = l .«jump_tables»; «inline_tables» = x; calls = l .calls }
+inlineTablesIn x l = record { given = l .given; labels = l .labels; pools = l .pools; «jump_tables» = l .«jump_tables»; «inline_tables» = x; calls = l .calls; registers = l .registers }
+
+abbrev pub registersIn : Registers → World → World
+registersIn x l = record { given = l .given; labels = l .labels; pools = l .pools; «jump_tables» = l .«jump_tables»; «inline_tables» = l .«inline_tables»; calls = l .calls; registers = x }
 
 abbrev pub givenIn : Given → World → World
-givenIn x l = record { given = x; labels = l .labels; pools = l .pools; «jump_tables» = l .«jump_tables»; «inline_tables» = l .«inline_tables»; calls = l .calls }
+givenIn x l = record { given = x; labels = l .labels; pools = l .pools; «jump_tables» = l .«jump_tables»; «inline_tables» = l .«inline_tables»; calls = l .calls; registers = l .registers }
 
 abbrev pub optionsIn : Options → World → World
 optionsIn o l = givenIn (record { options = o; places = l .given .places; code = l .given .code; starts = l .given .starts }) l
@@ -117,7 +122,7 @@ contextOf s l = record {
   next = s .next;
   progress = s .progress;
   machines = s .machines;
-  registers = s .registers;
+  registers = l .registers;
   maps = record {
     labels = mapIn labelRow (s .counts .labels) (l .labels);
     pools = mapIn poolRow (s .counts .pools) (l .pools);
@@ -141,7 +146,7 @@ read Goes c = goes c
 read (Ends a) c = ends a c
 read (Refuses n r) c = refuses n r
 
--- the code's `passed`
+-- the code's `pass`
 abbrev pub passesAs : Then → Ins → State → Stepped
 passesAs On i s = record { then = Goes; state = progressed (moving (s .next) (asPrevious i) (s .progress)) s }
 passesAs Goes i s = record { then = Goes; state = progressed (moving (s .next) (asPrevious i) (s .progress)) s }
@@ -150,6 +155,18 @@ passesAs (Refuses n r) i s = record { then = Refuses n r; state = s }
 
 abbrev pub passes : Ins → Stepped → Stepped
 passes i r = passesAs (r .then) i (r .state)
+
+-- the registers once a pool word is loaded
+abbrev pub loadedBy : Load → Registers → Registers
+loadedBy L-Nothing h = h
+loadedBy (L-Word register value a) h = holding h register value a
+
+abbrev pub loadedIn : Load → World → World
+loadedIn x l = registersIn (loadedBy x (l .registers)) l
+
+-- the registers without those that an instruction writes, where the blocks so far went on; else as they were
+abbrev pub forgottenBy : Then → Ins → Registers → Registers
+forgottenBy t i h = pick (isOn t) (forgotten h (i .defs)) h
 
 -- a call from the address has a place in the list of calls
 abbrev pub hasPlace : ℕ → World → Bool
@@ -176,7 +193,7 @@ pub record Comes (has : Bool) (a : ℕ) (k : Put) (r : Stepped) (l : World) (ste
   pub says : placed has (r .state .call) ≡ true → read (r .then) (contextOf (r .state) l) ≡ step
   pub full : placed has (r .state .call) ≡ false → placed has k ≡ true → step ≡ refuses listFull 0
 
--- what a block does, whatever stands in the slices, options and code that it does not see
+-- what a block does, whatever stands in the slices, options, code and registers that it does not see
 abbrev pub Does : (World → World) → (World → World) → (Context → Step) → State → Stepped → Type 0
 Does before after block s r =
     (l : World) → Holds (s .counts) (before l) → Settles (s .progress .address) (s .call) r (after l) (block (contextOf s (before l)))
@@ -197,10 +214,10 @@ same l = l
 
 -- a return asks whether a call goes to the next address, where a pool lies further on
 unfoldable pub asksCalls : ℕ → Bool → Bool → Progress → Bool
-asksCalls size block returns p = both (not block) (both returns (ltb (p .address + size) (p .«last_pool_address»)))
+asksCalls size inside returns p = both (not inside) (both returns (ltb (p .address + size) (p .«last_pool_address»)))
 
 -- what the code is told of that: the list of calls is read before the blocks that may put one
 abbrev pub Told : ℕ → Bool → Bool → Bool → State → World → Type 0
-Told size block returns isCalled s l =
-    asksCalls size block returns (s .progress) ≡ true
+Told size inside returns isCalled s l =
+    asksCalls size inside returns (s .progress) ≡ true
     → isCalled ≡ isDestination (s .progress .address + size) (contextOf s l .maps .calls)

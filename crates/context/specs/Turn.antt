@@ -53,7 +53,7 @@ closed Going c = walkOf Going c
 closed (Accepted r) c = walkOf (Accepted r) c
 closed (Refused n a r) c = walkOf (Refused n a r) (emptied c)
 
--- the first pool, 0 where there is none
+-- a key's address, 0 where there is none
 abbrev pub keyOr0 : Key → ℕ
 keyOr0 (Address a) = a
 keyOr0 Nothing = 0
@@ -62,6 +62,7 @@ keyOr0 Nothing = 0
 abbrev pub functionOf : ℕ → Context → Answer
 functionOf end c = intoFunction (c .given .options) (c .progress .start) end (c .progress .«last_pool_address») (keyOr0 (firstKey (c .maps .pools)))
 
+-- the walk stands at the last instruction's end
 abbrev pub endingAt : ℕ → Context → Context
 endingAt end c = record {
   given = c .given;
@@ -72,7 +73,7 @@ endingAt end c = record {
   maps = c .maps;
 }
 
--- what a step comes to; a refused one leaves the walk as it was
+-- what a step comes to; a refused one leaves the walk as it was, but for its result and its entries
 abbrev pub settled : Context → Step → Turned
 settled before (on c) = walkOf Going c
 settled before (goes c) = walkOf Going c

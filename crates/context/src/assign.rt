@@ -8,13 +8,12 @@ use analysis::illegal_code::IllegalCodeState;
 use analysis::inline_table::InlineTableState;
 use analysis::jump_table::JumpTableStateArm;
 use predicates::Previous;
-use registers::Registers;
 use walk::Machines;
 use walk::Progress;
 ghost use mathlib.Core.Path.{_≡_};
 ghost use Prim.Native.Nat.{max};
 ghost use Rattle.context.specs.Context.{raising, tableTo, poolTo, defining, moving, jumpTableTo, functionBranchTo, inlineTableTo, illegalCodeTo};
-ghost use Rattle.context.specs.State.{headed, progressed, machined, registered, counted, putting, countLabels, countPools, countJumpTables, countInlineTables, countCalls};
+ghost use Rattle.context.specs.State.{headed, progressed, machined, counted, putting, countLabels, countPools, countJumpTables, countInlineTables, countCalls};
 
 fn larger(a: u32, b: u32) -> u32
     ensures { λ r. ⌜ r ≡ max a b ⌝ }
@@ -83,14 +82,12 @@ pub fn move_on(s: State, previous: Previous) -> State
     };
     let next = s.next;
     let machines = s.machines;
-    let registers = s.registers;
     let counts = s.counts;
     let call = s.call;
     State {
         next,
         progress,
         machines,
-        registers,
         counts,
         call,
     }
@@ -141,32 +138,12 @@ fn with_machines(s: State, machines: Machines) -> State
 {
     let next = s.next;
     let progress = s.progress;
-    let registers = s.registers;
     let counts = s.counts;
     let call = s.call;
     State {
         next,
         progress,
         machines,
-        registers,
-        counts,
-        call,
-    }
-}
-
-pub fn with_registers(s: State, registers: Registers) -> State
-    ensures { λ r. ⌜ r ≡ registered registers s ⌝ }
-{
-    let next = s.next;
-    let progress = s.progress;
-    let machines = s.machines;
-    let counts = s.counts;
-    let call = s.call;
-    State {
-        next,
-        progress,
-        machines,
-        registers,
         counts,
         call,
     }
@@ -178,13 +155,11 @@ pub fn with_call(s: State, call: Put) -> State
     let next = s.next;
     let progress = s.progress;
     let machines = s.machines;
-    let registers = s.registers;
     let counts = s.counts;
     State {
         next,
         progress,
         machines,
-        registers,
         counts,
         call,
     }

@@ -14,7 +14,7 @@ ghost use mathlib.Core.Path.{_≡_};
 ghost use Prim.Native.Nat.{_+_, _<_, _^_};
 ghost use lib.Dec.{ltb};
 ghost use Rattle.context.specs.Blocks.{isIn, callTo};
-ghost use Rattle.context.specs.State.{isOn, Puts, same, asksCalls, passes};
+ghost use Rattle.context.specs.State.{isOn, loadedBy, Puts, same, asksCalls, passes};
 
 // The numbers in a row of each list. A label: address. A pool: address, value, mark. A table: address, size. A call: address, word,
 // destination, mode.
@@ -36,14 +36,24 @@ pub enum Put {
     },
 }
 
-// `next` is the parser's address, where the walk goes on.
+// `next` is the parser's address, where the walk goes on. The walk's registers stand beside the state, not in it: a block that touches none of
+// them does not move their two arrays.
 pub struct State {
     pub next: u32,
     pub progress: Progress,
     pub machines: Machines,
-    pub registers: Registers,
     pub counts: Counts,
     pub call: Put,
+}
+
+// The pool word that a step is to put in a register.
+pub enum Load {
+    Nothing,
+    Word {
+        register: u8,
+        value: u32,
+        address: u32,
+    },
 }
 
 // What a block comes to: on to the next block, on at the next instruction, the last instruction ended, or a refusal.
@@ -57,6 +67,18 @@ pub enum Then {
 pub struct Stepped {
     pub then: Then,
     pub state: State,
+}
+
+// A step, with the pool word that it is to load.
+pub struct Loaded {
+    pub stepped: Stepped,
+    pub load: Load,
+}
+
+// A step, with the registers after it.
+pub struct Handled {
+    pub stepped: Stepped,
+    pub registers: Registers,
 }
 
 pub fn is_on(r: Stepped) -> bool
@@ -98,6 +120,19 @@ pub fn call_to(s: State, word: u32, ins: Ins, mode: u32) -> Stepped
     ))
 }
 
+pub fn load_into(registers: Registers, load: Load) -> Registers
+    ensures { λ r. ⌜ r ≡ loadedBy load registers ⌝ }
+{
+    match load {
+        Load::Nothing => registers,
+        Load::Word {
+            register,
+            value,
+            address,
+        } => registers::hold(registers, register, value, address),
+    }
+}
+
 pub fn in_conditional_block(s: State) -> bool
     ensures { λ r. ⌜ r ≡ ltb (s .progress .address) (s .progress .«last_conditional_destination») ⌝ }
 {
@@ -105,11 +140,11 @@ pub fn in_conditional_block(s: State) -> bool
 }
 
 // A return asks the calls only where a pool lies further on.
-pub fn asks_calls(s: State, size: u32, block: bool, returns: bool) -> bool
+pub fn asks_calls(s: State, size: u32, inside: bool, returns: bool) -> bool
     requires { ⌜ s .progress .address + size < 2 ^ 32 ⌝ }
-    ensures { λ r. ⌜ r ≡ asksCalls size block returns (s .progress) ⌝ }
+    ensures { λ r. ⌜ r ≡ asksCalls size inside returns (s .progress) ⌝ }
 {
-    if block {
+    if inside {
         return false;
     }
     if !returns {

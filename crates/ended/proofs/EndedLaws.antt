@@ -18,7 +18,7 @@ use Rattle.context.specs.Context.{Maps, Given, Context, Step}
 use Rattle.context.specs.Lists.{Lists, zeroed, placesOf, givenBy}
 use Rattle.context.specs.Turn.{Turned, noMaps, countsOf, contextAt, closed, endingAt, settled, turnAt, turn, armSize}
 use Rattle.invariants.specs.Turns.{turnsFrom}
-use Rattle.invariants.proofs.CheckLaws.{both-true}
+use Rattle.base.proofs.ChoiceLaws.{both-true}
 use Rattle.invariants.proofs.KeptLaws.{none-fits, written-places}
 use Rattle.invariants.proofs.StepLaws.{same-written}
 use Rattle.stepper.specs.Calls.{After, isGoing, refused, begin, turned}

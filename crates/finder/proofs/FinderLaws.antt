@@ -24,7 +24,8 @@ use Rattle.request.specs.Request.{codeOf, parsed}
 use Rattle.stepper.specs.declared.Answered.{Answered as Stepped}
 use Rattle.stepper.specs.Calls.{After, Called, refused}
 use Rattle.text.specs.Decimal.{strip, decimal}
-use Rattle.text.specs.Hex.{pick, hexDigit, digits, hex}
+use Rattle.text.specs.Hex.{hexDigit, digits, hex}
+use Rattle.base.specs.Choice.{pick}
 use Rattle.text.specs.Put.{put}
 use Rattle.text.proofs.Put.{put-front}
 use Rattle.walk.specs.declared.Answer.{Answer}

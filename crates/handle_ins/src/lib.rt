@@ -2,6 +2,7 @@
 use arm::Ins;
 use base::refusal::LIST_FULL;
 use context::CALL_ROW;
+use context::Handled;
 use context::Put;
 use context::State;
 use context::Stepped;
@@ -9,9 +10,11 @@ use context::asks_calls;
 use context::assign;
 use context::in_conditional_block;
 use context::is_on;
+use context::load_into;
 use context::pass;
 use handling::from_return;
 use handling::to_return;
+use registers::Registers;
 use rows::Entered;
 use rows::insert::enter;
 use rows::search::field;
@@ -46,15 +49,15 @@ fn is_destination(calls: &[u32], count: usize, address: u32) -> bool
 fn is_called_next(
     s: State,
     size: u32,
-    block: bool,
+    inside: bool,
     returns: bool,
     calls: &[u32],
     count: usize,
 ) -> bool
     requires { ⌜ Held callRow count (now calls) × (s .progress .address + size < 2 ^ 32) ⌝ }
-    ensures { λ r. ⌜ (asksCalls size block returns (s .progress) ≡ true → r ≡ isDestination (s .progress .address + size) (mapIn callRow count (now (calls .entry)))) ⌝ }
+    ensures { λ r. ⌜ (asksCalls size inside returns (s .progress) ≡ true → r ≡ isDestination (s .progress .address + size) (mapIn callRow count (now (calls .entry)))) ⌝ }
 {
-    if asks_calls(s, size, block, returns) {
+    if asks_calls(s, size, inside, returns) {
         return is_destination(calls, count, s.progress.address + size);
     }
     false
@@ -64,6 +67,7 @@ fn is_called_next(
 fn handle_ins_inner(
     o: Options,
     s: State,
+    held: Registers,
     word: u32,
     size: u32,
     ins: Ins,
@@ -74,27 +78,32 @@ fn handle_ins_inner(
     jump_tables: &mut [u32],
     inline_tables: &mut [u32],
     calls: &[u32],
-) -> Stepped
+) -> Handled
     requires { ⌜ NoCall s × AllHeld (s .counts) (lists (now labels) (now pools) (now «jump_tables») (now «inline_tables») (now calls)) × Held 1 (length (now starts)) (now starts) × (s .progress .address + 4 < 2 ^ 32) × (s .progress .address + size < 2 ^ 32) ⌝ }
-    ensures { λ r. ⌜ Inner (givenBy o (now (code .entry)) (now (starts .entry)) (lists (now (labels .entry)) (now (pools .entry)) (now («jump_tables» .entry)) (now («inline_tables» .entry)) (now (calls .entry)))) ins word size s (lists (now (labels .entry)) (now (pools .entry)) (now («jump_tables» .entry)) (now («inline_tables» .entry)) (now (calls .entry))) (lists (now (labels .exit)) (now (pools .exit)) (now («jump_tables» .exit)) (now («inline_tables» .exit)) (now (calls .entry))) r ⌝ }
+    ensures { λ r. ⌜ Inner (givenBy o (now (code .entry)) (now (starts .entry)) (lists (now (labels .entry)) (now (pools .entry)) (now («jump_tables» .entry)) (now («inline_tables» .entry)) (now (calls .entry)))) ins word size s held (lists (now (labels .entry)) (now (pools .entry)) (now («jump_tables» .entry)) (now («inline_tables» .entry)) (now (calls .entry))) (lists (now (labels .exit)) (now (pools .exit)) (now («jump_tables» .exit)) (now («inline_tables» .exit)) (now (calls .entry))) r ⌝ }
 {
     let n = s.counts;
-    let r = to_return(s, ins, pools, jump_tables, inline_tables);
+    let r = to_return(s, held, ins, pools, jump_tables, inline_tables);
     if !is_on(r) {
-        return r;
+        return Handled {
+            stepped: r,
+            registers: held,
+        };
     }
     let t = r.state;
+    // for def in ins.defs()
+    let known = registers::forget(held, ins.defs);
     let p = t.progress;
-    let block = in_conditional_block(t);
+    let inside = in_conditional_block(t);
     let returns = predicates::is_return(p.address, ins, p.previous);
-    let is_called = is_called_next(t, size, block, returns, calls, n.calls);
-    from_return(
+    let is_called = is_called_next(t, size, inside, returns, calls, n.calls);
+    let loaded = from_return(
         o,
         t,
         word,
         size,
         ins,
-        block,
+        inside,
         returns,
         is_called,
         code,
@@ -102,7 +111,14 @@ fn handle_ins_inner(
         labels,
         pools,
         inline_tables,
-    )
+    );
+    let stepped = loaded.stepped;
+    let load = loaded.load;
+    // register_values[register] = ..
+    Handled {
+        stepped,
+        registers: load_into(known, load),
+    }
 }
 
 // The step once its call was entered: without a place it is a refusal.
@@ -145,6 +161,7 @@ fn put_call(r: Stepped, count: usize, calls: &mut [u32]) -> Stepped
 pub fn handle_ins(
     o: Options,
     s: State,
+    held: Registers,
     word: u32,
     size: u32,
     ins: Ins,
@@ -155,15 +172,16 @@ pub fn handle_ins(
     jump_tables: &mut [u32],
     inline_tables: &mut [u32],
     calls: &mut [u32],
-) -> Stepped
+) -> Handled
     requires { ⌜ NoCall s × AllHeld (s .counts) (lists (now labels) (now pools) (now «jump_tables») (now «inline_tables») (now calls)) × Held 1 (length (now starts)) (now starts) × (s .progress .address + 4 < 2 ^ 32) × (s .progress .address + size < 2 ^ 32) ⌝ }
-    ensures { λ r. ⌜ Handles (givenBy o (now (code .entry)) (now (starts .entry)) (lists (now (labels .entry)) (now (pools .entry)) (now («jump_tables» .entry)) (now («inline_tables» .entry)) (now (calls .entry)))) r (lists (now (labels .entry)) (now (pools .entry)) (now («jump_tables» .entry)) (now («inline_tables» .entry)) (now (calls .entry))) (lists (now (labels .exit)) (now (pools .exit)) (now («jump_tables» .exit)) (now («inline_tables» .exit)) (now (calls .exit))) (handleIns ins word size (contextIn (givenBy o (now (code .entry)) (now (starts .entry)) (lists (now (labels .entry)) (now (pools .entry)) (now («jump_tables» .entry)) (now («inline_tables» .entry)) (now (calls .entry)))) s (lists (now (labels .entry)) (now (pools .entry)) (now («jump_tables» .entry)) (now («inline_tables» .entry)) (now (calls .entry))))) ⌝ }
+    ensures { λ r. ⌜ Handles (givenBy o (now (code .entry)) (now (starts .entry)) (lists (now (labels .entry)) (now (pools .entry)) (now («jump_tables» .entry)) (now («inline_tables» .entry)) (now (calls .entry)))) r (lists (now (labels .entry)) (now (pools .entry)) (now («jump_tables» .entry)) (now («inline_tables» .entry)) (now (calls .entry))) (lists (now (labels .exit)) (now (pools .exit)) (now («jump_tables» .exit)) (now («inline_tables» .exit)) (now (calls .exit))) (handleIns ins word size (contextIn (givenBy o (now (code .entry)) (now (starts .entry)) (lists (now (labels .entry)) (now (pools .entry)) (now («jump_tables» .entry)) (now («inline_tables» .entry)) (now (calls .entry)))) held s (lists (now (labels .entry)) (now (pools .entry)) (now («jump_tables» .entry)) (now («inline_tables» .entry)) (now (calls .entry))))) ⌝ }
 {
     let p = s.progress;
     let n = s.counts;
-    let r = handle_ins_inner(
+    let handled = handle_ins_inner(
         o,
         assign::goto(s, p.address + size),
+        held,
         word,
         size,
         ins,
@@ -175,5 +193,9 @@ pub fn handle_ins(
         inline_tables,
         calls,
     );
-    pass(put_call(r, n.calls, calls), ins)
+    let registers = handled.registers;
+    Handled {
+        stepped: pass(put_call(handled.stepped, n.calls, calls), ins),
+        registers,
+    }
 }

@@ -1,22 +1,25 @@
-// handle_ins_inner: its blocks one after another. The list of calls is not lent: what is asked of it is told before, and the call that is to
-// be put in it comes back in the state.
+// The blocks of handle_ins_inner one after another, but for what touches the registers' arrays, which `handle_ins` does between and behind the
+// two functions here. The list of calls is not lent: what is asked of it is told before, and the call that is to be put in it comes back in
+// the state.
 use arm::Ins;
 use branches::branch;
 use branches::branch_outside;
 use branches::entry_after_branch;
 use branches::final_return;
 use branches::function_call;
+use context::Load;
+use context::Loaded;
 use context::Put;
 use context::State;
 use context::Stepped;
 use context::assign;
 use context::is_on;
+use registers::Registers;
 use tables::inline_table;
 use tables::jump_table;
 use tables::skip_inline_table;
 use tables::skip_pool;
 use values::check_defined;
-use values::forget_written;
 use values::illegal_code;
 use values::mark_pool;
 use values::pool_load;
@@ -27,18 +30,19 @@ ghost use lib.ListN.{length};
 ghost use Rattle.rows.specs.Map.{Held};
 ghost use Rattle.context.specs.Context.{labelRow, poolRow, tableRow};
 ghost use Rattle.context.specs.Blocks.{toReturn, fromReturn};
-ghost use Rattle.context.specs.State.{Does, PutsIf, Told, labelsIn, poolsIn, jumpTablesIn, inlineTablesIn, codeIn, optionsIn, startsIn};
+ghost use Rattle.context.specs.State.{Does, PutsIf, Told, registersIn, forgottenBy, loadedIn, labelsIn, poolsIn, jumpTablesIn, inlineTablesIn, codeIn, optionsIn, startsIn};
 
-// Up to in_conditional_block and is_return.
+// Up to in_conditional_block and is_return. What the instruction writes is forgotten by the caller, where this went on.
 pub fn to_return(
     s: State,
+    held: Registers,
     ins: Ins,
     pools: &mut [u32],
     jump_tables: &mut [u32],
     inline_tables: &[u32],
 ) -> Stepped
     requires { ⌜ Held poolRow (s .counts .pools) (now pools) × Held tableRow (s .counts .«jump_tables») (now «jump_tables») × Held tableRow (s .counts .«inline_tables») (now «inline_tables») × (s .progress .address + 4 < 2 ^ 32) ⌝ }
-    ensures { λ r. ⌜ Does (λ l. poolsIn (now (pools .entry)) (jumpTablesIn (now («jump_tables» .entry)) (inlineTablesIn (now («inline_tables» .entry)) l))) (λ l. poolsIn (now (pools .exit)) (jumpTablesIn (now («jump_tables» .exit)) (inlineTablesIn (now («inline_tables» .entry)) l))) (toReturn ins) s r ⌝ }
+    ensures { λ r. ⌜ Does (λ l. registersIn held (poolsIn (now (pools .entry)) (jumpTablesIn (now («jump_tables» .entry)) (inlineTablesIn (now («inline_tables» .entry)) l)))) (λ l. registersIn (forgottenBy (r .then) ins held) (poolsIn (now (pools .exit)) (jumpTablesIn (now («jump_tables» .exit)) (inlineTablesIn (now («inline_tables» .entry)) l)))) (toReturn ins) s r ⌝ }
 {
     let r1 = skip_pool(s, pools);
     if !is_on(r1) {
@@ -60,7 +64,9 @@ pub fn to_return(
     if !is_on(r5) {
         return r5;
     }
-    assign::on(forget_written(mark_pool(r5.state, ins, pools), ins))
+    let t = r5.state;
+    mark_pool(t, held, ins, pools);
+    assign::on(t)
 }
 
 // From there on. No call has been put yet.
@@ -70,7 +76,7 @@ pub fn from_return(
     word: u32,
     size: u32,
     ins: Ins,
-    block: bool,
+    inside: bool,
     returns: bool,
     is_called_next: bool,
     code: &[u8],
@@ -78,37 +84,51 @@ pub fn from_return(
     labels: &mut [u32],
     pools: &mut [u32],
     inline_tables: &mut [u32],
-) -> Stepped
+) -> Loaded
     requires { ⌜ Held 1 (length (now starts)) (now starts) × Held labelRow (s .counts .labels) (now labels) × Held poolRow (s .counts .pools) (now pools) × Held tableRow (s .counts .«inline_tables») (now «inline_tables») × (s .progress .address + size < 2 ^ 32) × (s .call ≡ Put.Nothing) ⌝ }
-    ensures { λ r. ⌜ PutsIf (Told size block returns «is_called_next» s) (λ l. codeIn (now (code .entry)) (startsIn (now (starts .entry)) (optionsIn o (labelsIn (now (labels .entry)) (poolsIn (now (pools .entry)) (inlineTablesIn (now («inline_tables» .entry)) l)))))) (λ l. codeIn (now (code .entry)) (startsIn (now (starts .entry)) (optionsIn o (labelsIn (now (labels .exit)) (poolsIn (now (pools .exit)) (inlineTablesIn (now («inline_tables» .exit)) l)))))) (fromReturn ins word size block returns) s r ⌝ }
+    ensures { λ r. ⌜ PutsIf (Told size inside returns «is_called_next» s) (λ l. codeIn (now (code .entry)) (startsIn (now (starts .entry)) (optionsIn o (labelsIn (now (labels .entry)) (poolsIn (now (pools .entry)) (inlineTablesIn (now («inline_tables» .entry)) l)))))) (λ l. loadedIn (r .load) (codeIn (now (code .entry)) (startsIn (now (starts .entry)) (optionsIn o (labelsIn (now (labels .exit)) (poolsIn (now (pools .exit)) (inlineTablesIn (now («inline_tables» .exit)) l))))))) (fromReturn ins word size inside returns) s (r .stepped) ⌝ }
 {
-    let r1 = final_return(o, s, word, size, ins, block, returns, is_called_next, code);
+    let r1 = final_return(o, s, word, size, ins, inside, returns, is_called_next, code);
     if !is_on(r1) {
-        return r1;
+        return Loaded {
+            stepped: r1,
+            load: Load::Nothing,
+        };
     }
-    let r2 = entry_after_branch(r1.state, ins, block);
+    let r2 = entry_after_branch(r1.state, ins, inside);
     if !is_on(r2) {
-        return r2;
+        return Loaded {
+            stepped: r2,
+            load: Load::Nothing,
+        };
     }
-    let r3 = branch(o, r2.state, word, size, ins, block, starts, labels, pools);
+    let r3 = branch(o, r2.state, word, size, ins, inside, starts, labels, pools);
     if !is_on(r3) {
-        return r3;
+        return Loaded {
+            stepped: r3,
+            load: Load::Nothing,
+        };
     }
-    let r4 = pool_load(o, r3.state, ins, code, pools);
+    let loaded = pool_load(o, r3.state, ins, code, pools);
+    let r4 = loaded.stepped;
+    let load = loaded.load;
     if !is_on(r4) {
-        return r4;
+        return Loaded { stepped: r4, load };
     }
     let r5 = inline_table(r4.state, ins, inline_tables);
     if !is_on(r5) {
-        return r5;
+        return Loaded { stepped: r5, load };
     }
     let r6 = function_call(r5.state, word, ins);
     if !is_on(r6) {
-        return r6;
+        return Loaded { stepped: r6, load };
     }
     let r7 = check_defined(o, r6.state, ins, returns);
     if !is_on(r7) {
-        return r7;
+        return Loaded { stepped: r7, load };
     }
-    assign::go(r7.state)
+    Loaded {
+        stepped: assign::go(r7.state),
+        load,
+    }
 }

@@ -2,25 +2,15 @@
 --     list j, records      a list lent for the lifetime j, and the records of calls.        lent, again      the pointers with which they are lent on
 --     fields               the fields of a call's answer.        slice, place     a slice's value, and its pointer.        fits      a slice is of its type
 -- Assumes nothing.
-use Prim.Native.Nat.{ℕ, _<_, _^_}
-use mathlib.Core.List.{List}
-use lib.Dec.{T as Holds}
-use lib.ListN.{length}
-use mir.Syntax.{Ty, Tys, tcons, tnil, named, erased, mut, w32, tyInt, tyRef}
-use mir.Val.{Val, WT, hasTy, vptr}
-use denote.Memory.{pointee}
-use denote.Ref.{RefT}
-use denote.Slice.{sliceTy, sliceVal}
+use Rattle.calls.proofs.Prelude.{List, _<_, _^_, ℕ, Holds, length, Ty, Tys, erased, mut, named, tcons, tnil, tyInt, tyRef, w32, Val, WT, hasTy, vptr, pointee, RefT, sliceTy, sliceVal}
 use denote.Struct.Laws as LL
 use Rattle.calls.proofs.Call as T
 use Rattle.calls.proofs.Edit.Laws as X′
 use Rattle.stepper.proofs.Answered.Laws as P′
 use Rattle.walk.specs.declared.Options.{Options}
 use Rattle.walk.proofs.Options as O
-use Rattle.walk.proofs.Options.Laws as O′
 use Rattle.host.specs.declared.told.Done.{Done}
 use Rattle.host.proofs.told.Done as K
-use Rattle.host.proofs.told.Done.Laws as K′
 
 abbrev pub list : ℕ → Ty
 list j = sliceTy (tyRef (named j) mut (tyInt w32))
@@ -38,10 +28,10 @@ abbrev pub fields : Tys
 fields = tcons P′.mir (tcons X′.mir tnil)
 
 abbrev pub options : Options → Val
-options x = LL.val O.the-type O′.the-laws x
+options x = LL.val O.the-type O.Laws.the-laws x
 
 abbrev pub made : Done → Val
-made x = LL.val K.the-type K′.the-laws x
+made x = LL.val K.the-type K.Laws.the-laws x
 
 abbrev pub slice : {X : Type 0} → RefT (List X) → Val
 slice x = sliceVal (x .ptr) (length (x .now))

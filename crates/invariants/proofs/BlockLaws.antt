@@ -51,7 +51,7 @@ use Rattle.rows.specs.declared.Found.the-variants.{At as F-At, Missing as F-Mis
 use Rattle.rows.specs.declared.Gap.{Gap}
 use Rattle.rows.specs.declared.Gap.the-variants.{At as G-At, Beyond as G-Beyond}
 use Rattle.rows.proofs.RunLaws.{gap-at}
-use Rattle.rows.proofs.OrderLaws.{both-first, both-second}
+use Rattle.base.proofs.ChoiceLaws.{both-first, both-second}
 use Rattle.walk.specs.declared.Counts.{Counts}
 use Rattle.walk.specs.declared.Machines.{Machines}
 use Rattle.walk.specs.Checking.{undefinedRegister}

@@ -8,6 +8,7 @@ use native.Mathlib.Omega.{arith}
 use borrow.Author.Tests.{leb-true, le-leb, eqb-true, eq-eqb}
 use lib.Dec.{eqb}
 use lib.ListN.{length}
+use Rattle.base.proofs.ChoiceLaws.{both-true}
 use Rattle.base.specs.Choice.{pick, both}
 use Rattle.context.specs.Context.{labelRow, poolRow, tableRow}
 use Rattle.context.specs.Lists.{Lists, AllHeld, mapsIn}
@@ -25,10 +26,6 @@ use Rattle.walk.specs.declared.Walk.{Walk}
 pub passes : (b : Bool) (x k : ℕ) → 0 < k → pick b x k ≡ 0 → (b ≡ true) × (x ≡ 0)
 passes true x k h e = (refl, e)
 passes false x k h e = absurd (omega arith)
-
-pub both-true : (b c : Bool) → both b c ≡ true → (b ≡ true) × (c ≡ true)
-both-true true c e = (refl, e)
-both-true false c e = absurd (let z : _≡_ {A = ℕ} 0 1 = cc in omega arith)
 
 -- ---- a begin that passed
 

@@ -6,7 +6,9 @@ use Prim.Native.Nat.{ℕ}
 use native.Mathlib.Omega.{arith}
 use lib.Dec.{eqb}
 use borrow.Author.Tests.{eqb-true}
-use Rattle.analysis.specs.Pattern.{pick, both, al, pc}
+use Rattle.base.proofs.ChoiceLaws.{both-first, both-second}
+use Rattle.analysis.specs.Pattern.{al, pc}
+use Rattle.base.specs.Choice.{pick, both}
 use Rattle.classes.specs.declared.Class.the-variants.{Ldr, Push}
 use Rattle.arm.specs.declared.Ins.{Ins}
 use Rattle.classes.specs.Class.{classNo, is}
@@ -19,14 +21,6 @@ pub same : (b : Bool) → pick b false false ≡ false
 same true = refl
 same false = refl
 
-both-left : (b c : Bool) → both b c ≡ true → b ≡ true
-both-left true c e = refl
-both-left false c e = e
-
-both-right : (b c : Bool) → both b c ≡ true → c ≡ true
-both-right true c e = e
-both-right false c e = absurd (let z : _≡_ {A = ℕ} 0 1 = cc in omega arith)
-
 not-true : (b : Bool) → not b ≡ true → b ≡ false
 not-true true e = absurd (let z : _≡_ {A = ℕ} 0 1 = cc in omega arith)
 not-true false e = refl
@@ -37,7 +31,7 @@ entry-push i e = go (isConditional (i .cond)) e
   where
     go : (b : Bool) → pick b false (both (is (i .class) Push) (hasLr (i .regs))) ≡ true → is (i .class) Push ≡ true
     go true f = absurd (let z : _≡_ {A = ℕ} 0 1 = cc in omega arith)
-    go false f = both-left (is (i .class) Push) (hasLr (i .regs)) f
+    go false f = both-first (is (i .class) Push) (hasLr (i .regs)) f
 
 module _ (a : ℕ) (i : Ins) (previous : Previous) where
   pub entry-no-return : isEntryInstruction i ≡ true → isReturn a i previous ≡ false
@@ -49,11 +43,11 @@ module _ (a : ℕ) (i : Ins) (previous : Previous) where
 module _ (i : Ins) (load : isPoolLoad i ≡ true) where
   pub load-ldr : is (i .class) Ldr ≡ true
   unfolding isPoolLoad
-  load-ldr = both-left (is (i .class) Ldr) _ load
+  load-ldr = both-first (is (i .class) Ldr) _ load
 
   load-target : eqb (i .rd) pc ≡ false
   unfolding isPoolLoad
-  load-target = not-true (eqb (i .rd) pc) (both-right (isOffPc (i .addr)) (not (eqb (i .rd) pc)) (both-right (is (i .class) Ldr) _ load))
+  load-target = not-true (eqb (i .rd) pc) (both-second (isOffPc (i .addr)) (not (eqb (i .rd) pc)) (both-second (is (i .class) Ldr) _ load))
 
   pub load-no-return : (a : ℕ) (previous : Previous) → isReturn a i previous ≡ false
   unfolding classNo isReturn isReturnAfter isReturnAlways isMovPc isLdmPc isPopPc isBranchBack isSubsPcLr isLdrPc isEorPc isAddPc

@@ -8,7 +8,7 @@ use native.Mathlib.Nat.{zero-mul}
 use native.Mathlib.Omega.{arith}
 use borrow.Author.Tests.{leb-true}
 use lib.Dec.{leb}
-use lib.ListN.{length, length-append, length-replicate}
+use lib.ListN.{length}
 use Rattle.arm.specs.Ins.{decodeOf}
 use Rattle.base.specs.declared.word.Word.{Word}
 use Rattle.base.specs.declared.word.Word.the-variants.{Found as W-Found, Missing}
@@ -17,10 +17,9 @@ use Rattle.context.specs.Context.{Maps, Given, Context, Step, labelRow, poolRow
 use Rattle.context.specs.Lists.{Lists, AllHeld, mapsIn, written, zeroed, placesOf, givenBy}
 use Rattle.context.specs.Turn.{Turned, noMaps, countsOf, contextAt, closed, functionOf, endingAt, settled, turnAt, turn, armSize}
 use Rattle.rows.specs.Order.{ascending}
-use Rattle.rows.specs.Rows.{padded}
-use Rattle.rows.specs.Map.{Held, flat, encode, mapIn, lastKey}
-use Rattle.rows.proofs.MapLaws.{held-map, map-length, flat-length, encode-map, encode-held}
-use Rattle.rows.proofs.OrderLaws.{both-first}
+use Rattle.rows.specs.Map.{Held, encode, mapIn, lastKey}
+use Rattle.rows.proofs.MapLaws.{held-map, map-length, encode-map, encode-held, encode-length}
+use Rattle.base.proofs.ChoiceLaws.{both-first}
 use Rattle.stepper.specs.Calls.{isGoing, numberAt, turned}
 use Rattle.validity.specs.Validity.{isInCode, areWhole, areHeld}
 use Rattle.walk.specs.declared.Answer.{Answer}
@@ -41,11 +40,7 @@ module _ {k places : ℕ} {m : List (List ℕ)} (s : 0 < k) (f : Fit k places m)
   fit-held = encode-held m s (f .is) (f .room) refl refl .0
 
   fit-length : length (encode places m) ≡ places
-  unfolding padded
-  fit-length =
-      let long : length (flat m) ≡ length m * k = flat-length k m (f .is .wide) in
-      let room = f .room in
-      simp (length-append, length-replicate) (omega arith)
+  fit-length = encode-length k places m (f .is .wide) (f .room)
 
 held-fit : {k n : ℕ} {list : List ℕ} → Held k n list → Fit k (length list) (mapIn k n list)
 held-fit {k} {n} {list} h = record { is = held-map h; room = rw (map-length k n list) (h .fits) }

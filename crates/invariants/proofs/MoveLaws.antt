@@ -26,7 +26,7 @@ use Rattle.rows.specs.Run.{gapFrom}
 use Rattle.rows.specs.declared.Gap.{Gap}
 use Rattle.rows.specs.declared.Gap.the-variants.{At as G-At, Beyond as G-Beyond}
 use Rattle.rows.proofs.RowLaws.{stands-inserted}
-use Rattle.rows.proofs.OrderLaws.{both-second}
+use Rattle.base.proofs.ChoiceLaws.{both-second}
 use Rattle.invariants.proofs.TargetLaws.{branch-past}
 use Rattle.invariants.proofs.BlockLaws.{Meets, is-on, is-refused, Kept, Jumps, Skips, pool, table, handleIns-kept, pastPools-kept, chained}
 use Rattle.invariants.proofs.BlockLaws.{chosen}

@@ -14,11 +14,9 @@ use Rattle.registers.specs.Registers.{isOdd, cleared}
 use Rattle.rows.specs.Order.{rising, ascending}
 use Rattle.rows.specs.Rows.{stands, inserted}
 use Rattle.rows.specs.Map.{keyOf, stands-in, lastKey, Wide}
-use Rattle.rows.proofs.OrderLaws.{both-first, both-second, rising-ascending}
+use Rattle.rows.proofs.OrderLaws.{rising-ascending}
+use Rattle.base.proofs.ChoiceLaws.{both-are, both-first, both-second}
 use Rattle.validity.specs.Validity.{isWhole, areWhole, areHeld}
-
-both-are : (b c : Bool) → b ≡ true → c ≡ true → both b c ≡ true
-both-are b c e f = rw (e, f)
 
 pub wide-inserted : (k : ℕ) (row : List ℕ) (m : List (List ℕ)) → length row ≡ k → Wide k m → Wide k (inserted keyOf row m)
 unfolding inserted

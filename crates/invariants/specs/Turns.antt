@@ -1,4 +1,4 @@
--- A walk on and on: turns without the checks between them, and steps, each from what the last one left.
+-- A walk over many calls: turns without the checks between them, and steps, each from what the last one left.
 -- Assumes nothing.
 use mathlib.Core.List.{List}
 use Prim.Native.Nat.{ℕ, zero, suc}

@@ -39,17 +39,17 @@ above-within x n list e = rw (map-length labelRow n list) at (found (mapIn label
 
 -- ---- the raise
 
-module _ (i : Ins) (block : Bool) where
-  raised-address : (s : State) → raisedBy i block s .progress .address ≡ s .progress .address
-  raised-address s = step (raisesBy i block (s .progress))
+module _ (i : Ins) (inside : Bool) where
+  raised-address : (s : State) → raisedBy i inside s .progress .address ≡ s .progress .address
+  raised-address s = step (raisesBy i inside (s .progress))
     where
       step : (b : Bool) → pick b (raising (i .target) (s .progress)) (s .progress) .address ≡ s .progress .address
       step true = refl
       step false = refl
 
-  raised-is : (s : State) (l : World) → contextOf (raisedBy i block s) l ≡ labelRaised i block (contextOf s l)
+  raised-is : (s : State) (l : World) → contextOf (raisedBy i inside s) l ≡ labelRaised i inside (contextOf s l)
   unfolding labelRaised raisesLabel
-  raised-is s l = step (raisesBy i block (s .progress))
+  raised-is s l = step (raisesBy i inside (s .progress))
     where
       step : (b : Bool) → contextOf (progressed (pick b (raising (i .target) (s .progress)) (s .progress)) s) l
           ≡ pick b (contextOf (progressed (raising (i .target) (s .progress)) s) l) (contextOf s l)
@@ -58,14 +58,14 @@ module _ (i : Ins) (block : Bool) where
 
   -- what the way past pools requires
   pub at-label : (s : State) (size : ℕ) {t u : State} {x : ℕ} {labels pools : List ℕ}
-      → t ≡ counted (countLabels x (s .counts)) s → u ≡ raisedBy i block t
+      → t ≡ counted (countLabels x (s .counts)) s → u ≡ raisedBy i inside t
       → Held labelRow x labels × Held poolRow (s .counts .pools) pools × (s .progress .address + size < 2 ^ 32)
       → Held labelRow (u .counts .labels) labels × Held poolRow (u .counts .pools) pools × (u .progress .address + size < 2 ^ 32)
   at-label s size {t} te ue h = rw (ue, raised-address t, te) h
 
 -- ---- handle_label, after its label was entered
 
-module _ (i : Ins) (s : State) (size : ℕ) (block : Bool) (pools : List ℕ) {e : Entered} {t : State} {before after : List ℕ}
+module _ (i : Ins) (s : State) (size : ℕ) (inside : Bool) (pools : List ℕ) {e : Entered} {t : State} {before after : List ℕ}
     (put : Entering labelRow (s .counts .labels) before (i .target ∷ []) e after)
     (long : length after ≡ length before)
     (te : t ≡ counted (countLabels (e .count) (s .counts)) s) where
@@ -76,24 +76,24 @@ module _ (i : Ins) (s : State) (size : ℕ) (block : Bool) (pools : List ℕ) {e
   to l = labelsIn after (poolsIn pools l)
 
   pub label-full : {r : Stepped} → e .full ≡ true → r ≡ record { then = Refuses listFull 0; state = t }
-      → Does from to (handleLabel i size block) s r
+      → Does from to (handleLabel i size inside) s r
   unfolding handleLabel
   label-full full re = λ l h.
       let held = labels-held (poolsIn pools l) h (put .held) long in
       rw (re, te) (record { stays = refl; call = refl; holds = held; says = sym (rw (entering _ _ (h .labelPlaces) put, full)) })
 
-  pub label-in : {u : State} {r : Stepped} → e .full ≡ false → u ≡ raisedBy i block t → Does to to (pastPools i size) u r
-      → Does from to (handleLabel i size block) s r
+  pub label-in : {u : State} {r : Stepped} → e .full ≡ false → u ≡ raisedBy i inside t → Does to to (pastPools i size) u r
+      → Does from to (handleLabel i size inside) s r
   unfolding handleLabel
   label-in {u} {r} full ue d = λ l h.
       let held = labels-held (poolsIn pools l) h (put .held) long in
       let w : Settles (s .progress .address) (s .call) (onwards t) (to l) (enterLabel (i .target ∷ []) (contextOf s (from l)))
       = rw te (record { stays = refl; call = refl; holds = held; says = sym (rw (entering _ _ (h .labelPlaces) put, full)) }) in
       let v = d l (rw (ue, te) held) in
-      go-settled (λ c. pastPools i size (labelRaised i block c)) refl w
+      go-settled (λ c. pastPools i size (labelRaised i inside c)) refl w
       (record {
-        stays = v .stays ∙ rw ue (raised-address i block t);
+        stays = v .stays ∙ rw ue (raised-address i inside t);
         call = v .call ∙ rw ue;
         holds = v .holds;
-        says = v .says ∙ ap (pastPools i size) (rw ue (raised-is i block t (to l)));
+        says = v .says ∙ ap (pastPools i size) (rw ue (raised-is i inside t (to l)));
       })

@@ -11,7 +11,7 @@ use Rattle.context.specs.State.{progressed}
 use Rattle.walk.specs.declared.Progress.{Progress}
 
 abbrev pub raisesBy : Ins → Bool → Progress → Bool
-raisesBy i block p = either block (either (isConditional (i .cond)) (ltb (p .address) (p .«jump_table_end_address»)))
+raisesBy i inside p = either inside (either (isConditional (i .cond)) (ltb (p .address) (p .«jump_table_end_address»)))
 
 abbrev pub raisedBy : Ins → Bool → State → State
-raisedBy i block s = progressed (pick (raisesBy i block (s .progress)) (raising (i .target) (s .progress)) (s .progress)) s
+raisedBy i inside s = progressed (pick (raisesBy i inside (s .progress)) (raising (i .target) (s .progress)) (s .progress)) s

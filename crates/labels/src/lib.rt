@@ -51,10 +51,10 @@ fn past_pools(s: State, size: u32, ins: Ins, labels: &[u32], pools: &[u32]) -> S
 }
 
 // A branch to a label raises the last conditional destination within a conditional block, under a condition, or in a jump table.
-fn raises_label(p: Progress, ins: Ins, block: bool) -> bool
-    ensures { λ r. ⌜ r ≡ raisesBy ins block p ⌝ }
+fn raises_label(p: Progress, ins: Ins, inside: bool) -> bool
+    ensures { λ r. ⌜ r ≡ raisesBy ins inside p ⌝ }
 {
-    if block {
+    if inside {
         return true;
     }
     if ins.is_conditional() {
@@ -63,11 +63,11 @@ fn raises_label(p: Progress, ins: Ins, block: bool) -> bool
     p.address < p.jump_table_end_address
 }
 
-fn label_raised(s: State, ins: Ins, block: bool) -> State
-    ensures { λ r. ⌜ r ≡ raisedBy ins block s ⌝ }
+fn label_raised(s: State, ins: Ins, inside: bool) -> State
+    ensures { λ r. ⌜ r ≡ raisedBy ins inside s ⌝ }
 {
     let p = s.progress;
-    if raises_label(p, ins, block) {
+    if raises_label(p, ins, inside) {
         return assign::raise(s, ins.target);
     }
     s
@@ -77,17 +77,17 @@ pub fn handle_label(
     s: State,
     size: u32,
     ins: Ins,
-    block: bool,
+    inside: bool,
     labels: &mut [u32],
     pools: &[u32],
 ) -> Stepped
     requires { ⌜ Held labelRow (s .counts .labels) (now labels) × Held poolRow (s .counts .pools) (now pools) × (s .progress .address + size < 2 ^ 32) ⌝ }
-    ensures { λ r. ⌜ Does (λ l. labelsIn (now (labels .entry)) (poolsIn (now (pools .entry)) l)) (λ l. labelsIn (now (labels .exit)) (poolsIn (now (pools .entry)) l)) (handleLabel ins size block) s r ⌝ }
+    ensures { λ r. ⌜ Does (λ l. labelsIn (now (labels .entry)) (poolsIn (now (pools .entry)) l)) (λ l. labelsIn (now (labels .exit)) (poolsIn (now (pools .entry)) l)) (handleLabel ins size inside) s r ⌝ }
 {
     let e = enter(labels, LABEL_ROW, s.counts.labels, [ins.target, 0, 0, 0]);
     let t = assign::count_labels(s, e.count);
     if e.full {
         return assign::refuse(t, LIST_FULL);
     }
-    past_pools(label_raised(t, ins, block), size, ins, labels, pools)
+    past_pools(label_raised(t, ins, inside), size, ins, labels, pools)
 }

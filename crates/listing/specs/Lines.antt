@@ -7,7 +7,8 @@ use lib.ListN.{length, getD}
 use Rattle.context.specs.Blocks.{call, thumb}
 use Rattle.context.specs.Context.{poolRow, tableRow, callRow}
 use Rattle.rows.specs.Map.{keyOf}
-use Rattle.text.specs.Hex.{pick, hex}
+use Rattle.text.specs.Hex.{hex}
+use Rattle.base.specs.Choice.{pick}
 use Rattle.words.specs.Names.{bytes}
 
 -- a space and eight digits

@@ -12,7 +12,7 @@ ghost use lib.Dec.{eqb, leb};
 ghost use lib.ListN.{length};
 ghost use Rattle.context.specs.Lists.{lists, mapsIn};
 ghost use Rattle.rows.specs.Map.{mapIn};
-ghost use Rattle.text.specs.Hex.{pick};
+ghost use Rattle.base.specs.Choice.{pick};
 ghost use Rattle.text.specs.Put.{Written};
 ghost use Rattle.words.specs.Answer.{Answered};
 ghost use Rattle.listing.specs.Lines.{field, restOf, lineOf, linesOf};

@@ -8,6 +8,7 @@ use Rattle.context.specs.declared.Then.{Then}
 use Rattle.context.specs.declared.Then.the-variants.{On, Goes, Ends, Refuses}
 use Rattle.context.specs.Context.{moving}
 use Rattle.context.specs.State.{progressed}
+use Rattle.registers.specs.declared.Registers.{Registers}
 use Rattle.walk.specs.declared.Answer.{Answer}
 use Rattle.walk.specs.declared.Answer.the-variants.{Going, Accepted, Refused}
 use Rattle.walk.specs.declared.Counts.{Counts}
@@ -21,18 +22,17 @@ stateOf w = record {
   next = w .progress .address;
   progress = w .progress;
   machines = w .machines;
-  registers = w .registers;
   counts = w .counts;
   call = Nothing;
 }
 
-abbrev pub walkIn : Answer → State → Walk
-walkIn result s = record { progress = s .progress; machines = s .machines; registers = s .registers; counts = s .counts; result = result }
+abbrev pub walkIn : Answer → Registers → State → Walk
+walkIn result g s = record { progress = s .progress; machines = s .machines; registers = g; counts = s .counts; result = result }
 
 abbrev pub withCounts : Counts → Walk → Walk
 withCounts n w = record { progress = w .progress; machines = w .machines; registers = w .registers; counts = n; result = w .result }
 
--- the walk as it was, refused
+-- the walk as it was, but for these counts and its result
 abbrev pub refused : Walk → Counts → ℕ → ℕ → ℕ → Walk
 refused w n number a r = record {
   progress = w .progress;
@@ -43,17 +43,17 @@ refused w n number a r = record {
 }
 
 -- into_function, with the first pool, from the last instruction's end
-abbrev pub endsAt : Options → ℕ → ℕ → State → Walk
-endsAt o pool end s =
-    walkIn (intoFunction o (s .progress .start) end (s .progress .«last_pool_address») pool)
+abbrev pub endsAt : Options → ℕ → ℕ → Registers → State → Walk
+endsAt o pool end g s =
+    walkIn (intoFunction o (s .progress .start) end (s .progress .«last_pool_address») pool) g
     (progressed (moving end (s .progress .previous) (s .progress)) s)
 
 -- the code's `settle`, with the first pool
-abbrev pub settles : Options → Walk → ℕ → Then → State → Walk
-settles o w pool On s = walkIn Going s
-settles o w pool Goes s = walkIn Going s
-settles o w pool (Ends end) s = endsAt o pool end s
-settles o w pool (Refuses n r) s = refused w (s .counts) n (w .progress .address) r
+abbrev pub settles : Options → Walk → ℕ → Then → Registers → State → Walk
+settles o w pool On g s = walkIn Going g s
+settles o w pool Goes g s = walkIn Going g s
+settles o w pool (Ends end) g s = endsAt o pool end g s
+settles o w pool (Refuses n r) g s = refused w (s .counts) n (w .progress .address) r
 
 abbrev pub isRefused : Answer → Bool
 isRefused Going = false

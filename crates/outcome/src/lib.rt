@@ -1,12 +1,13 @@
 // What a step comes to: the walk after it, and the lists after a refusal.
 use context::CALL_ROW;
+use context::Handled;
 use context::LABEL_ROW;
 use context::POOL_ROW;
 use context::Put;
 use context::State;
-use context::Stepped;
 use context::TABLE_ROW;
 use context::Then;
+use registers::Registers;
 use rows::Key;
 use rows::order::clear;
 use rows::search::first;
@@ -28,24 +29,21 @@ pub fn state_of(w: Walk) -> State
 {
     let progress = w.progress;
     let machines = w.machines;
-    let registers = w.registers;
     let counts = w.counts;
     State {
         next: progress.address,
         progress,
         machines,
-        registers,
         counts,
         call: Put::Nothing,
     }
 }
 
-fn walk_in(s: State, result: Answer) -> Walk
-    ensures { λ r. ⌜ r ≡ walkIn result s ⌝ }
+fn walk_in(s: State, registers: Registers, result: Answer) -> Walk
+    ensures { λ r. ⌜ r ≡ walkIn result registers s ⌝ }
 {
     let progress = s.progress;
     let machines = s.machines;
-    let registers = s.registers;
     let counts = s.counts;
     Walk {
         progress,
@@ -72,7 +70,7 @@ pub fn with_counts(w: Walk, counts: Counts) -> Walk
     }
 }
 
-// The walk as it was, refused.
+// The walk as it was, but for these counts and its result.
 pub fn refused(w: Walk, counts: Counts, number: u8, address: u32, register: u8) -> Walk
     ensures { λ r. ⌜ r ≡ refused w counts number address register ⌝ }
 {
@@ -104,9 +102,9 @@ fn first_pool(pools: &[u32], count: usize) -> u32
 }
 
 // into_function, from the last instruction's end.
-fn end_at(o: Options, s: State, end: u32, pools: &[u32]) -> Walk
+fn end_at(o: Options, s: State, registers: Registers, end: u32, pools: &[u32]) -> Walk
     requires { ⌜ Held poolRow (s .counts .pools) (now pools) ⌝ }
-    ensures { λ r. ⌜ r ≡ endsAt o (keyOr0 (firstKey (mapIn poolRow (s .counts .pools) (now (pools .entry))))) end s ⌝ }
+    ensures { λ r. ⌜ r ≡ endsAt o (keyOr0 (firstKey (mapIn poolRow (s .counts .pools) (now (pools .entry))))) end registers s ⌝ }
 {
     let p = s.progress;
     let n = s.counts;
@@ -114,20 +112,22 @@ fn end_at(o: Options, s: State, end: u32, pools: &[u32]) -> Walk
     let result = into_function(o, p.start, end, p.last_pool_address, pool);
     let mut ended = s;
     ended.progress.address = end;
-    walk_in(ended, result)
+    walk_in(ended, registers, result)
 }
 
-// What a step comes to; a refused one leaves the walk as it was.
-pub fn settle(o: Options, w: Walk, r: Stepped, pools: &[u32]) -> Walk
-    requires { ⌜ Held poolRow (r .state .counts .pools) (now pools) ⌝ }
-    ensures { λ x. ⌜ x ≡ settles o w (keyOr0 (firstKey (mapIn poolRow (r .state .counts .pools) (now (pools .entry))))) (r .then) (r .state) ⌝ }
+// What a step comes to; a refused one leaves the walk as it was, but for its result and the counts, by which the lists are cleared.
+pub fn settle(o: Options, w: Walk, h: Handled, pools: &[u32]) -> Walk
+    requires { ⌜ Held poolRow (h .stepped .state .counts .pools) (now pools) ⌝ }
+    ensures { λ x. ⌜ x ≡ settles o w (keyOr0 (firstKey (mapIn poolRow (h .stepped .state .counts .pools) (now (pools .entry))))) (h .stepped .then) (h .registers) (h .stepped .state) ⌝ }
 {
+    let registers = h.registers;
+    let r = h.stepped;
     let s = r.state;
     let then = r.then;
     match then {
-        Then::On => walk_in(s, Answer::Going),
-        Then::Goes => walk_in(s, Answer::Going),
-        Then::Ends(end) => end_at(o, s, end, pools),
+        Then::On => walk_in(s, registers, Answer::Going),
+        Then::Goes => walk_in(s, registers, Answer::Going),
+        Then::Ends(end) => end_at(o, s, registers, end, pools),
         Then::Refuses { number, register } => {
             let p = w.progress;
             let n = s.counts;

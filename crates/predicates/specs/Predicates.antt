@@ -17,7 +17,8 @@ use Rattle.classes.specs.declared.LdmStmMode.{LdmStmMode}
 use Rattle.classes.specs.declared.LdmStmMode.the-variants.{Da, Ia, Db, Ib}
 use Rattle.classes.specs.Class.{is}
 use Rattle.arm.specs.Ins.{isConditional}
-use Rattle.analysis.specs.Pattern.{pick, both, isWhen, isData, isLsl, isRegister, al, sp, lr, pc}
+use Rattle.analysis.specs.Pattern.{isWhen, isData, isLsl, isRegister, al, sp, lr, pc}
+use Rattle.base.specs.Choice.{pick, both}
 use Rattle.predicates.specs.declared.Previous.{Previous}
 use Rattle.predicates.specs.declared.Callee.{Callee}
 use Rattle.predicates.specs.declared.Callee.the-variants.{Nothing, Arm, Thumb}
@@ -149,7 +150,7 @@ isReturnAlways address i =
 unfoldable pub isAddsFour : Ins → Bool
 isAddsFour i = both (isData i Add al true) (both (eqb (i .rd) 0) (both (eqb (i .rn) 0) (isFour (i .op2))))
 
--- adds r0, r0, #4 and then bne: a return in disguise
+-- adds r0, r0, #4 and then bne: the source takes this for a return
 unfoldable pub isReturnAfter : Ins → Previous → Bool
 isReturnAfter i previous = both (isWhen i B ne) (previous .«is_adds_four»)
 

@@ -362,7 +362,7 @@ fn is_adds_four(ins: Ins) -> bool
     false
 }
 
-// adds r0, r0, #4 and then bne: a return in disguise
+// adds r0, r0, #4 and then bne: the source takes this for a return
 fn is_return_after(ins: Ins, previous: Previous) -> bool
     ensures { λ r. ⌜ r ≡ isReturnAfter ins previous ⌝ }
 {

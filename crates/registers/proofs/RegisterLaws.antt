@@ -2,10 +2,11 @@
 -- Assumes nothing.
 use mathlib.Core.Path.{_≡_, refl, ap}
 use mathlib.Core.List.{List, [], _∷_, _++_}
-use Prim.Native.Nat.{ℕ, zero, suc, _+_, _-_, _/_, _%_, _≤_, _<_}
+use Prim.Native.Nat.{ℕ, zero, suc, _+_, _-_, _/_, _%_, _^_, _≤_, _<_}
 use native.Mathlib.Nat.{le-of-suc-le-suc}
 use native.Mathlib.Omega.{arith}
 use borrow.Author.Tests.{eq-eqb, ne-eqb}
+use lib.Pow.{shr-lt}
 use lib.ListN.{length, take, drop, set}
 use Rattle.registers.specs.Registers.{cleared, missingFrom}
 
@@ -13,7 +14,7 @@ use Rattle.registers.specs.Registers.{cleared, missingFrom}
 abbrev pub half : ℕ → ℕ → List ℕ → List ℕ
 half r rest column = take r column ++ cleared rest (drop r column)
 
--- one turn, where the register is in the set and where it is not, and the end
+-- one turn, where the register is in the set and where it is not, and the end, where none is left in it
 pub half-in : (r rest : ℕ) (l : List ℕ) → r < length l → rest % 2 ≡ 1 → half (suc r) (rest / 2) (set l r 0) ≡ half r rest l
 unfolding cleared
 half-in r rest [] h e = absurd (omega arith)
@@ -26,12 +27,30 @@ half-out r rest [] h e = absurd (omega arith)
 half-out zero rest (x ∷ l) h e = rw (ne-eqb (rest % 2) 1 e)
 half-out (suc r) rest (x ∷ l) h e = ap (λ (m : List ℕ). x ∷ m) (half-out r rest l (le-of-suc-le-suc h) e)
 
-pub half-done : (r rest : ℕ) (l : List ℕ) → length l ≤ r → half r rest l ≡ l
+none-cleared : (l : List ℕ) → cleared 0 l ≡ l
 unfolding cleared
-half-done zero rest [] h = refl
-half-done (suc r) rest [] h = refl
-half-done zero rest (x ∷ l) h = absurd (omega arith)
-half-done (suc r) rest (x ∷ l) h = ap (λ (m : List ℕ). x ∷ m) (half-done r rest l (le-of-suc-le-suc h))
+none-cleared [] = refl
+none-cleared (x ∷ l) = ap (λ (m : List ℕ). x ∷ m) (none-cleared l)
+
+pub half-none : (r : ℕ) (l : List ℕ) → half r 0 l ≡ l
+unfolding cleared
+half-none zero l = none-cleared l
+half-none (suc r) [] = refl
+half-none (suc r) (x ∷ l) = ap (λ (m : List ℕ). x ∷ m) (half-none r l)
+
+-- what is left of a set from register r on fits the registers that are left: a set that is not empty leaves one
+module _ (r rest : ℕ) (h : rest < 2 ^ (16 - r)) where
+  pub one-left : (rest ≡ 0 → ⊥) → r < 16
+  one-left some = step (16 - r) refl h
+    where
+      step : (k : ℕ) → 16 - r ≡ k → rest < 2 ^ k → r < 16
+      step zero e f = absurd (some (omega arith))
+      step (suc k) e f = omega arith
+
+  pub half-fits : r < 16 → rest / 2 < 2 ^ (16 - suc r)
+  half-fits l =
+      let left : 16 - r ≡ (16 - suc r) + 1 = omega arith in
+      shr-lt (16 - suc r) 1 (rw left at h)
 
 -- the search from register r on: it ends at r, or goes on at the next, where r is not used or is defined
 module _ (r uses defined : ℕ) (h : r < 16) where

@@ -4,17 +4,10 @@ use mathlib.Core.Bool.{Bool, true, false, not}
 use mathlib.Core.List.{List, [], _∷_}
 use lib.Dec.{eqb}
 use lib.ListN.{getD, set}
+use Rattle.base.specs.Choice.{pick, both}
 use Rattle.registers.specs.declared.Registers.{Registers}
 
--- the first where the test holds, else the second
-abbrev pub pick : {A : Type 0} → Bool → A → A → A
-pick true a b = a
-pick false a b = b
-
-abbrev pub both : Bool → Bool → Bool
-both s t = pick s t false
-
--- the lowest register of a set is in it
+-- register 0 is in a set
 abbrev pub isOdd : ℕ → Bool
 isOdd set = eqb (set % 2) 1
 

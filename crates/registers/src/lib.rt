@@ -1,6 +1,6 @@
 // Sets of registers as 16 bits, and the pool words that registers hold (`register_values` of ds-decomp's walk).
 ghost use mathlib.Core.Path.{_≡_};
-ghost use Rattle.registers.specs.Registers.{cleared, forgotten, holding, sourceOf, lowestMissing, only};
+ghost use Rattle.registers.specs.Registers.{forgotten, holding, sourceOf, lowestMissing, only};
 
 // Per register, the pool word that it was loaded from: its value and its address, or zeros.
 pub struct Registers {
@@ -8,33 +8,23 @@ pub struct Registers {
     pub sources: [u32; 16],
 }
 
-// A column of them without the registers of a set.
-fn clear(column: [u32; 16], set: u16) -> [u32; 16]
-    ensures { λ r. ⌜ r ≡ cleared set column ⌝ }
-{
-    let mut left = column;
-    let mut rest = set;
-    let mut r = 0;
-    while r < 16 {
-        if rest % 2 == 1 {
-            left[r] = 0;
-        }
-        rest = rest / 2;
-        r += 1;
-    }
-    left
-}
-
 // Written registers forget their pool words.
 pub fn forget(registers: Registers, set: u16) -> Registers
     ensures { λ r. ⌜ r ≡ forgotten registers set ⌝ }
 {
-    let values = registers.values;
-    let sources = registers.sources;
-    Registers {
-        values: clear(values, set),
-        sources: clear(sources, set),
+    let mut values = registers.values;
+    let mut sources = registers.sources;
+    let mut rest = set;
+    let mut r = 0;
+    while rest != 0 {
+        if rest % 2 == 1 {
+            values[r] = 0;
+            sources[r] = 0;
+        }
+        rest = rest / 2;
+        r += 1;
     }
+    Registers { values, sources }
 }
 
 // A register now holds a pool word.

@@ -8,7 +8,8 @@ use native.Mathlib.Omega.{arith}
 use lib.Dec.{leb}
 use lib.ListN.{length, length-drop}
 use borrow.Author.Tests.{leb-true, eqb-true, le-leb, eq-eqb}
-use Rattle.analysis.specs.Pattern.{pick, both}
+use Rattle.base.proofs.ChoiceLaws.{both-true}
+use Rattle.base.specs.Choice.{pick, both}
 use Rattle.words.specs.Lines.{wordAt}
 use Rattle.request.specs.declared.Parsed.the-variants.{Asked, Refused}
 use Rattle.request.specs.declared.Request.{Request}
@@ -20,10 +21,6 @@ pub record Fitting (input : List ℕ) : Type 0 where
   pub whole : statedLength input + 4 ≡ length input
   pub version : version input ≡ 1
   pub check : checkByte input ≤ 1
-
-both-true : (s t : Bool) → both s t ≡ true → (s ≡ true) × (t ≡ true)
-both-true true t h = (refl, h)
-both-true false t h = let z : _≡_ {A = ℕ} 0 1 = cc in absurd (omega arith)
 
 pub request-fits : (input : List ℕ) → isRequest input ≡ true → Fitting input
 unfolding isRequest

@@ -4,7 +4,7 @@ use mathlib.Core.Bool.{Bool}
 use mathlib.Core.List.{List}
 use lib.Dec.{eqb, leb}
 use lib.ListN.{length, getD, drop}
-use Rattle.analysis.specs.Pattern.{pick, both}
+use Rattle.base.specs.Choice.{pick, both}
 use Rattle.walk.specs.declared.KnownEnd.{KnownEnd}
 use Rattle.walk.specs.declared.KnownEnd.the-variants.{Nothing, At}
 use Rattle.words.specs.Lines.{wordAt}

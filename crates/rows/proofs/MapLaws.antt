@@ -13,7 +13,8 @@ use lib.Seq.{length-take-le, drop-drop, take-add, getD-take, getD-drop, take-at,
 use Rattle.base.specs.Choice.{pick}
 use Rattle.rows.specs.Order.{rising, ascending, zeros, cleared}
 use Rattle.rows.specs.Rows.{padded}
-use Rattle.rows.proofs.OrderLaws.{both-first, both-second, zeros-replicate, cleared-padded, padded-cleared}
+use Rattle.rows.proofs.OrderLaws.{zeros-replicate, cleared-padded, padded-cleared}
+use Rattle.base.proofs.ChoiceLaws.{both-first, both-second}
 use Rattle.rows.specs.Map.{keyOf, Wide, Map, flat, encode, mapIn, Held, inOrder}
 
 -- a row among n ends within what holds them
@@ -83,7 +84,7 @@ map-back k (r ∷ rs) zs w =
 
 -- ---- what a slice holds
 
-encode-length : (k places : ℕ) (m : List (List ℕ)) → Wide k m → length m * k ≤ places → length (encode places m) ≡ places
+pub encode-length : (k places : ℕ) (m : List (List ℕ)) → Wide k m → length m * k ≤ places → length (encode places m) ≡ places
 unfolding padded
 encode-length k places m w h =
     let f : length (flat m) ≡ length m * k = flat-length k m w in

@@ -13,17 +13,9 @@ use lib.ListN.{length, take, drop, getD, replicate, take-append-drop, length-dro
 use lib.Seq.{drop-cons, slice-cons, slice-empty, length-take-le, drop-append-seam}
 use lib.ListN.{drop-of-length-le, length-append}
 use Rattle.base.specs.Choice.{pick}
+use Rattle.base.proofs.ChoiceLaws.{both-first, both-second}
 use Rattle.rows.specs.Order.{rising, ascending, zeros, cleared}
 use Rattle.rows.specs.Rows.{padded}
-
--- both parts of a test of two hold
-pub both-first : (s t : Bool) → pick s t false ≡ true → s ≡ true
-both-first true t e = refl
-both-first false t e = e
-
-pub both-second : (s t : Bool) → pick s t false ≡ true → t ≡ true
-both-second true t e = e
-both-second false t e = absurd (false≢true e)
 
 -- ---- ascending keys
 

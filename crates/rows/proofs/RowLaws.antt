@@ -14,7 +14,7 @@ use lib.ListN.{length, set, getD, length-set}
 use Rattle.base.specs.Choice.{pick}
 use Rattle.rows.specs.Order.{rising, ascending}
 use Rattle.rows.specs.Rows.{insertAt, rank, stands, lookup, inserted}
-use Rattle.rows.proofs.OrderLaws.{both-first, both-second}
+use Rattle.base.proofs.ChoiceLaws.{both-first, both-second}
 
 -- ---- an entry at a place
 

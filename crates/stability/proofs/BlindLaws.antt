@@ -39,7 +39,7 @@ use Rattle.predicates.specs.declared.Callee.{Callee}
 use Rattle.predicates.specs.declared.Callee.the-variants.{Nothing as No-Call, Arm, Thumb}
 use Rattle.predicates.specs.Predicates.{isBranch, isBx, isEntryInstruction, isPoolLoad, poolAddress, calledBy}
 use Rattle.registers.specs.Registers.{cleared, forgotten, holding, sourceOf}
-use Rattle.rows.proofs.OrderLaws.{both-second}
+use Rattle.base.proofs.ChoiceLaws.{both-second}
 use Rattle.rows.specs.Rows.{inserted}
 use Rattle.rows.specs.Map.{keyOf, stands-in, atOrAbove, fits}
 use Rattle.rows.specs.Run.{gapFrom}

@@ -14,7 +14,8 @@ use Rattle.rows.specs.Map.{keyOf}
 use Rattle.validity.specs.Validity.{low, high, isWindow, isInCode, isWhole, areWhole, areHeld}
 use Rattle.walk.specs.declared.Options.{Options}
 use Rattle.walk.specs.declared.Walk.{Walk}
-use Rattle.invariants.proofs.CheckLaws.{both-true, Begins, Passed}
+use Rattle.invariants.proofs.CheckLaws.{Begins, Passed}
+use Rattle.base.proofs.ChoiceLaws.{both-true}
 use Rattle.stability.proofs.PairLaws.{Paired, none, more, paired-stands, paired-last}
 use Rattle.stability.proofs.SliceLaws.{Slices}
 use Rattle.stability.proofs.TurnLaws.{revalued}

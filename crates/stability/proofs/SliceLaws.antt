@@ -5,12 +5,12 @@ use mathlib.Core.List.{List, [], _++_}
 use Prim.Native.Nat.{ℕ, zero, suc, _+_, _*_, _-_, _≤_, _<_}
 use native.Mathlib.Nat.{not-suc-le-zero, le-of-suc-le-suc}
 use native.Mathlib.Omega.{arith}
-use lib.ListN.{length, getD, replicate, length-append, length-replicate}
+use lib.ListN.{length, getD, replicate}
 use lib.Seq.{getD-append-add}
 use Rattle.context.specs.Context.{poolRow}
 use Rattle.rows.specs.Rows.{padded}
-use Rattle.rows.specs.Map.{keyOf, mapIn, flat, encode, Held, Map, Wide}
-use Rattle.rows.proofs.MapLaws.{map-length, field-at, row-key, held-flat, encode-held, flat-length}
+use Rattle.rows.specs.Map.{keyOf, mapIn, flat, encode, Held, Map}
+use Rattle.rows.proofs.MapLaws.{map-length, field-at, row-key, held-flat, encode-held, encode-length}
 use Rattle.stability.specs.Runs.{SamePools, Valued}
 use Rattle.stability.proofs.PairLaws.{Words, Paired, none, more, paired-keys, paired-length, paired-wide}
 
@@ -29,12 +29,6 @@ held-rest {k} {n} {list} h i l =
     ap (λ (r : List ℕ). getD r i 0) (h .holds)
     ∙ subst (λ (j : ℕ). getD (rows ++ zeros) j 0 ≡ 0) place
     (getD-append-add rows zeros (i - length rows) 0 ∙ getD-zeros (length list - length rows) (i - length rows))
-
-encode-length : (k places : ℕ) (m : List (List ℕ)) → Wide k m → length m * k ≤ places → length (encode places m) ≡ places
-unfolding padded
-encode-length k places m w h =
-    let f : length (flat m) ≡ length m * k = flat-length k m w in
-    simp (length-append, length-replicate) (omega arith)
 
 module _ (c d : List ℕ) (base : ℕ) where
   record SameRow (p q : List ℕ) : Type 0 where

@@ -20,7 +20,8 @@ use Rattle.rows.specs.Map.{keyOf, mapIn, lastKey}
 use Rattle.validity.specs.Validity.{isWhole, areWhole}
 use Rattle.walk.specs.declared.Options.{Options}
 use Rattle.walk.specs.declared.Walk.{Walk}
-use Rattle.invariants.proofs.CheckLaws.{both-true, Passed}
+use Rattle.invariants.proofs.CheckLaws.{Passed}
+use Rattle.base.proofs.ChoiceLaws.{both-true}
 use Rattle.invariants.proofs.KeptLaws.{turn-fits}
 use Rattle.invariants.proofs.TurnLaws.{turn-counts}
 use Rattle.stability.specs.Runs.{Agree}

@@ -1,2 +1,2 @@
--- What a search among the inline tables promises.
+-- What the contracts of this crate cite: a search among the inline tables, data that is skipped, a refusal by its number.
 pub mod Tables

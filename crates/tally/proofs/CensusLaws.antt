@@ -20,7 +20,8 @@ use Rattle.arm.specs.Naming.{shiftName, classOf}
 use Rattle.encodings.proofs.Reduce.{unconditional-yes, unconditional-no}
 use Rattle.encodings.proofs.Sweep.{and, and-left, and-right}
 use Rattle.tally.specs.Census.{Entry, entry, census, entryOf, Counted, total}
-use Rattle.tally.specs.Counting.{one, both, howMany, unconditionalWords, conditionalWords}
+use Rattle.tally.specs.Counting.{one, howMany, unconditionalWords, conditionalWords}
+use Rattle.base.specs.Choice.{both}
 use Rattle.tally.proofs.CountLaws.{sum, same-tests, same-terms, by-parts, all-pass}
 use Rattle.tally.proofs.FieldLaws.{shifted, classAt, class-fields}
 use Rattle.tally.proofs.OpLaws.{withOp, moved}

@@ -1,6 +1,7 @@
 -- How many of the 2^32 words a class has, under the conditions 1110 and 1111 and under the others.
 use Prim.Native.Nat.{ℕ, zero, suc, _+_, _/_, _^_}
 use mathlib.Core.Bool.{Bool, true, false, not}
+use Rattle.base.specs.Choice.{both}
 use Rattle.classes.specs.declared.Class.{Class}
 use Rattle.classes.specs.Class.{is}
 use Rattle.arm.specs.Ins.{isConditional}
@@ -15,9 +16,6 @@ one false = 0
 unfoldable pub howMany : (ℕ → Bool) → ℕ → ℕ
 howMany p zero = 0
 howMany p (suc n) = howMany p n + one (p n)
-
-abbrev pub both : Bool → Bool → Bool
-both a b = elim a [ true ↦ b | false ↦ false ]
 
 -- the condition field of a word
 abbrev pub conditionOf : ℕ → ℕ

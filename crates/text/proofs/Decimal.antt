@@ -9,7 +9,8 @@ use native.Mathlib.Omega.{arith}
 use lib.Dec.{eqb}
 use lib.ListN.{length}
 use borrow.Author.Tests.{lt-ltb, ne-eqb}
-use Rattle.text.specs.Hex.{pick, hexDigit, digits}
+use Rattle.text.specs.Hex.{hexDigit, digits}
+use Rattle.base.specs.Choice.{pick}
 use Rattle.text.specs.Decimal.{strip, decimal}
 use Rattle.text.proofs.Hex.{digits-length}
 

@@ -3,7 +3,8 @@
 use mathlib.Core.List.{List, [], _∷_}
 use Prim.Native.Nat.{ℕ}
 use lib.Dec.{eqb}
-use Rattle.text.specs.Hex.{pick, digits}
+use Rattle.text.specs.Hex.{digits}
+use Rattle.base.specs.Choice.{pick}
 
 -- a text without the zeros, 48, that it starts with; its last digit stays
 unfoldable pub strip : List ℕ → List ℕ

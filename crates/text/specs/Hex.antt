@@ -4,11 +4,7 @@ use mathlib.Core.Bool.{Bool, true, false}
 use mathlib.Core.List.{List, [], _∷_}
 use Prim.Native.Nat.{ℕ, zero, suc, _+_, _/_, _%_, _^_}
 use lib.Dec.{ltb}
-
--- the first where the test holds, else the second
-abbrev pub pick : {A : Type 0} → Bool → A → A → A
-pick true a b = a
-pick false a b = b
+use Rattle.base.specs.Choice.{pick}
 
 -- the digit that stands for d, below 16: '0' is 48, and 'a' is 97
 unfoldable pub hexDigit : ℕ → ℕ

@@ -13,7 +13,7 @@ use Rattle.base.specs.declared.word.Word.the-variants.{Found, Missing}
 use Rattle.base.specs.Refusals.{noEpilogue}
 use Rattle.base.specs.Words.{wordFrom, firstWord}
 use Rattle.context.specs.declared.State.{State}
-use Rattle.context.specs.declared.Stepped.{Stepped}
+use Rattle.context.specs.declared.Handled.{Handled}
 use Rattle.context.specs.declared.Then.{Then}
 use Rattle.context.specs.declared.Then.the-variants.{On, Goes, Ends, Refuses}
 use Rattle.context.specs.Blocks.{handleIns}
@@ -21,6 +21,7 @@ use Rattle.context.specs.Context.{Given, Maps, callRow, labelRow, poolRow, tabl
 use Rattle.context.specs.Lists.{Lists, AllHeld, mapsIn, written, zeroed, givenBy}
 use Rattle.context.specs.State.{read, progressed}
 use Rattle.context.specs.Turn.{Turned, turn, contextAt, settled, closed, countsOf, noMaps, keyOr0, armSize}
+use Rattle.registers.specs.declared.Registers.{Registers}
 use Rattle.rows.specs.Map.{mapIn, encode, Held, firstKey}
 use Rattle.rows.proofs.MapLaws.{map-length, zeros-held}
 use Rattle.walk.specs.declared.Answer.{Answer}
@@ -37,37 +38,37 @@ use Rattle.turn.specs.Turning.{left, Looks, Turns}
 -- ---- the walk after a step
 
 module _ (g : Given) (w : Walk) (m : Maps) (l : Lists) where
-  closes : (answer : Answer) (s : State) → left (walkIn answer s) l ≡ closed answer (contextIn g s l)
-  closes Going s = simp map-length
-  closes (Accepted r) s = simp map-length
-  closes (Refused n a r) s = refl
+  closes : (answer : Answer) (h : Registers) (s : State) → left (walkIn answer h s) l ≡ closed answer (contextIn g h s l)
+  closes Going h s = simp map-length
+  closes (Accepted r) h s = simp map-length
+  closes (Refused n a r) h s = refl
 
-  settles-left : (t : Then) (s : State)
-      → left (settles (g .options) w (keyOr0 (firstKey (mapIn poolRow (s .counts .pools) (l .pools)))) t s) l ≡ settled (contextAt g w m) (read t (contextIn g s l))
-  settles-left On s = closes Going s
-  settles-left Goes s = closes Going s
-  settles-left (Ends end) s =
+  settles-left : (t : Then) (h : Registers) (s : State)
+      → left (settles (g .options) w (keyOr0 (firstKey (mapIn poolRow (s .counts .pools) (l .pools)))) t h s) l ≡ settled (contextAt g w m) (read t (contextIn g h s l))
+  settles-left On h s = closes Going h s
+  settles-left Goes h s = closes Going h s
+  settles-left (Ends end) h s =
       closes (intoFunction (g .options) (s .progress .start) end (s .progress .«last_pool_address») (keyOr0 (firstKey (mapIn poolRow (s .counts .pools) (l .pools)))))
-      (progressed (moving end (s .progress .previous) (s .progress)) s)
-  settles-left (Refuses n r) s = refl
+      h (progressed (moving end (s .progress .previous) (s .progress)) s)
+  settles-left (Refuses n r) h s = refl
 
-settles-counts : (o : Options) (w : Walk) (pool : ℕ) (t : Then) (s : State) → settles o w pool t s .counts ≡ s .counts
-settles-counts o w pool On s = refl
-settles-counts o w pool Goes s = refl
-settles-counts o w pool (Ends end) s = refl
-settles-counts o w pool (Refuses n r) s = refl
+settles-counts : (o : Options) (w : Walk) (pool : ℕ) (t : Then) (h : Registers) (s : State) → settles o w pool t h s .counts ≡ s .counts
+settles-counts o w pool On h s = refl
+settles-counts o w pool Goes h s = refl
+settles-counts o w pool (Ends end) h s = refl
+settles-counts o w pool (Refuses n r) h s = refl
 
 module _ (o : Options) (code starts : List ℕ) (w : Walk) (before : Lists) where
-  pub looks-settled : {after : Lists} {r : Stepped} {x : Walk} {word : ℕ} → wordFrom code (o .base) (w .progress .address) ≡ Found word
+  pub looks-settled : {after : Lists} {r : Handled} {x : Walk} {word : ℕ} → wordFrom code (o .base) (w .progress .address) ≡ Found word
       → Handles (givenBy o code starts before) r before after
-      (handleIns (decodeOf word (w .progress .address)) word armSize (contextIn (givenBy o code starts before) (stateOf w) before))
-      → x ≡ settles o w (keyOr0 (firstKey (mapIn poolRow (r .state .counts .pools) (after .pools)))) (r .then) (r .state)
+      (handleIns (decodeOf word (w .progress .address)) word armSize (contextIn (givenBy o code starts before) (w .registers) (stateOf w) before))
+      → x ≡ settles o w (keyOr0 (firstKey (mapIn poolRow (r .stepped .state .counts .pools) (after .pools)))) (r .stepped .then) (r .registers) (r .stepped .state)
       → Looks x before after (turn (givenBy o code starts before) w (mapsIn (w .counts) before))
   unfolding turn
   looks-settled {after} {r} e h is = rw is (record {
-    held = rw (settles-counts o w (keyOr0 (firstKey (mapIn poolRow (r .state .counts .pools) (after .pools)))) (r .then) (r .state)) (h .held);
+    held = rw (settles-counts o w (keyOr0 (firstKey (mapIn poolRow (r .stepped .state .counts .pools) (after .pools)))) (r .stepped .then) (r .registers) (r .stepped .state)) (h .held);
     places = h .places;
-    says = rw e (settles-left (givenBy o code starts before) w (mapsIn (w .counts) before) after (r .then) (r .state)
+    says = rw e (settles-left (givenBy o code starts before) w (mapsIn (w .counts) before) after (r .stepped .then) (r .registers) (r .stepped .state)
         ∙ ap (settled (contextAt (givenBy o code starts before) w (mapsIn (w .counts) before))) (h .says));
   })
 

@@ -43,6 +43,7 @@ fn look(
             let r = handle_ins(
                 o,
                 state_of(w),
+                w.registers,
                 word,
                 ARM_SIZE,
                 arm::decode(word, p.address),

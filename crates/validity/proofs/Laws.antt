@@ -16,7 +16,7 @@ use Rattle.context.specs.Lists.{Lists, AllHeld, mapsIn}
 use Rattle.context.specs.Turn.{keyOr0}
 use Rattle.rows.specs.Map.{keyOf, stands-in, lastKey, Held, inOrder}
 use Rattle.rows.proofs.MapLaws.{in-order-held}
-use Rattle.rows.proofs.OrderLaws.{both-first, both-second}
+use Rattle.base.proofs.ChoiceLaws.{both-first, both-second}
 use Rattle.validity.specs.Validity.{low, high, isWindow, isInCode, areStarts, areInOrder, isWhole, areWhole, areHeld, arePools, areLists, stepNumber}
 use Rattle.walk.specs.declared.Counts.{Counts}
 use Rattle.walk.specs.declared.Options.{Options}

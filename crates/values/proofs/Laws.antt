@@ -14,7 +14,7 @@ use Rattle.base.specs.declared.word.Word.the-variants.{Found as W-Found}
 use Rattle.base.specs.Words.{wordFrom}
 use Rattle.predicates.specs.Predicates.{isBx, isPoolLoad, poolAddress}
 use Rattle.registers.specs.declared.Registers.{Registers}
-use Rattle.registers.specs.Registers.{holding, sourceOf}
+use Rattle.registers.specs.Registers.{sourceOf}
 use Rattle.rows.specs.declared.Entered.{Entered}
 use Rattle.rows.specs.declared.Found.the-variants.{At, Missing}
 use Rattle.rows.specs.Rows.{rank, stands, inserted}
@@ -22,13 +22,14 @@ use Rattle.rows.specs.Map.{keyOf, mapIn, Held, indexOf, Entering}
 use Rattle.rows.proofs.RowLaws.{inserted-length, stands-within}
 use Rattle.rows.proofs.MapLaws.{map-length}
 use Rattle.walk.specs.declared.Options.{Options}
+use Rattle.context.specs.declared.Load.the-variants.{Word}
 use Rattle.context.specs.declared.State.{State}
 use Rattle.context.specs.declared.Stepped.{Stepped}
 use Rattle.context.specs.declared.Then.the-variants.{On, Refuses}
 use Rattle.context.specs.Context.{poolRow, poolTo}
 use Rattle.context.specs.Blocks.{call, other, marked, markPool, poolLoad}
-use Rattle.context.specs.State.{Does, poolsIn, codeIn, optionsIn, counted, registered, progressed, countPools}
-use Rattle.context.proofs.Laws.{entering, pools-held}
+use Rattle.context.specs.State.{Does, poolsIn, codeIn, optionsIn, registersIn, loadedIn, counted, progressed, countPools}
+use Rattle.context.proofs.Laws.{entering, pools-held, registers-held}
 
 -- ---- a row for one that is held
 
@@ -89,47 +90,45 @@ module _ {n : ℕ} {before : List ℕ} (h : Held poolRow n before) (a : ℕ) whe
   unfolding marked
   mark-missing q = (h, rw (missing-stands a (mapIn poolRow n before) q))
 
-pub marks : (i : Ins) (s : State) {before after : List ℕ} → isBx i ≡ true → (sourceOf (s .registers) (i .rm) ≡ 0 → ⊥)
-    → Marks (s .counts .pools) (sourceOf (s .registers) (i .rm)) before after → length after ≡ length before
-    → Does (poolsIn before) (poolsIn after) (markPool i) s (record { then = On; state = s })
+pub marks : (i : Ins) (s : State) (g : Registers) {before after : List ℕ} → isBx i ≡ true → (sourceOf g (i .rm) ≡ 0 → ⊥)
+    → Marks (s .counts .pools) (sourceOf g (i .rm)) before after → length after ≡ length before
+    → Does (λ l. registersIn g (poolsIn before l)) (λ l. registersIn g (poolsIn after l)) (markPool i) s (record { then = On; state = s })
 unfolding markPool
-marks i s bx some w long = λ l h.
+marks i s g bx some w long = λ l h.
     record {
       stays = refl;
       call = refl;
-      holds = pools-held l h (w .0) long;
-      says = rw (bx, ne-eqb (sourceOf (s .registers) (i .rm)) 0 some, w .1);
+      holds = pools-held (registersIn g l) h (w .0) long;
+      says = rw (bx, ne-eqb (sourceOf g (i .rm)) 0 some, w .1);
     }
 
 -- ---- pool load
 
-module _ (o : Options) (i : Ins) (s : State) (code : List ℕ) {a value : ℕ} {e : Entered} {g : Registers} {t u : State} {before after : List ℕ}
+module _ (o : Options) (i : Ins) (s : State) (code : List ℕ) {a value : ℕ} {e : Entered} {t : State} {before after : List ℕ}
     (load : isPoolLoad i ≡ true)
     (ae : a ≡ poolAddress (s .progress .address) i)
     (q : wordFrom code (o .base) a ≡ W-Found value)
     (put : Entering poolRow (s .counts .pools) before (a ∷ value ∷ other ∷ []) e after)
     (long : length after ≡ length before)
-    (te : t ≡ counted (countPools (e .count) (s .counts)) s)
-    (ge : g ≡ holding (s .registers) (i .rd) value a)
-    (ue : u ≡ registered g t) where
-  pub pool-full : {r : Stepped} → e .full ≡ true → r ≡ record { then = Refuses listFull 0; state = u }
+    (te : t ≡ counted (countPools (e .count) (s .counts)) s) where
+  pub pool-full : {r : Stepped} → e .full ≡ true → r ≡ record { then = Refuses listFull 0; state = t }
       → Does (λ l. codeIn code (optionsIn o (poolsIn before l))) (λ l. codeIn code (optionsIn o (poolsIn after l))) (poolLoad i) s r
   unfolding poolLoad
   pool-full full re = λ l h.
-      rw (re, ue, te, ge) (record {
+      rw (re, te) (record {
         stays = refl;
         call = refl;
         holds = pools-held (codeIn code (optionsIn o l)) h (put .held) long;
         says = sym (rw (load, ← ae, q, entering _ _ (h .poolPlaces) put, full));
       })
 
-  pub pool-in : {v : State} {r : Stepped} → e .full ≡ false → v ≡ progressed (poolTo a (u .progress)) u → r ≡ record { then = On; state = v }
-      → Does (λ l. codeIn code (optionsIn o (poolsIn before l))) (λ l. codeIn code (optionsIn o (poolsIn after l))) (poolLoad i) s r
+  pub pool-in : {v : State} {r : Stepped} → e .full ≡ false → v ≡ progressed (poolTo a (t .progress)) t → r ≡ record { then = On; state = v }
+      → Does (λ l. codeIn code (optionsIn o (poolsIn before l))) (λ l. loadedIn (Word (i .rd) value a) (codeIn code (optionsIn o (poolsIn after l)))) (poolLoad i) s r
   unfolding poolLoad
   pool-in full ve re = λ l h.
-      rw (re, ve, ue, te, ge) (record {
+      rw (re, ve, te) (record {
         stays = refl;
         call = refl;
-        holds = pools-held (codeIn code (optionsIn o l)) h (put .held) long;
+        holds = registers-held _ (pools-held (codeIn code (optionsIn o l)) h (put .held) long);
         says = sym (rw (load, ← ae, q, entering _ _ (h .poolPlaces) put, full));
       })

@@ -6,11 +6,14 @@ use base::refusal::POOL_OUTSIDE;
 use base::refusal::UNDEFINED_REGISTER;
 use base::word::Word;
 use base::word::word_from;
+use context::Load;
+use context::Loaded;
 use context::POOL_ROW;
 use context::State;
 use context::Stepped;
 use context::Then;
 use context::assign;
+use registers::Registers;
 use rows::Found;
 use rows::insert::enter;
 use rows::search::field;
@@ -20,8 +23,8 @@ use walk::checking;
 ghost use mathlib.Core.Path.{_≡_};
 ghost use Rattle.rows.specs.Map.{Held, mapIn};
 ghost use Rattle.context.specs.Context.{poolRow};
-ghost use Rattle.context.specs.Blocks.{illegalCode, marked, markPool, forgetWritten, poolLoad, checkDefined};
-ghost use Rattle.context.specs.State.{Does, same, poolsIn, codeIn, optionsIn};
+ghost use Rattle.context.specs.Blocks.{illegalCode, marked, markPool, poolLoad, checkDefined};
+ghost use Rattle.context.specs.State.{Does, same, poolsIn, codeIn, optionsIn, registersIn, loadedIn};
 
 // PoolConstantUsage
 const OTHER: u32 = 0;
@@ -54,54 +57,58 @@ fn mark(pools: &mut [u32], count: usize, address: u32)
 }
 
 // An unconditional Bx marks the pool that its register came from.
-pub fn mark_pool(s: State, ins: Ins, pools: &mut [u32]) -> State
+pub fn mark_pool(s: State, held: Registers, ins: Ins, pools: &mut [u32])
     requires { ⌜ Held poolRow (s .counts .pools) (now pools) ⌝ }
-    ensures { λ r. ⌜ Does (poolsIn (now (pools .entry))) (poolsIn (now (pools .exit))) (markPool ins) s (record { then = Then.On; state = r }) ⌝ }
+    ensures { λ _. ⌜ Does (λ l. registersIn held (poolsIn (now (pools .entry)) l)) (λ l. registersIn held (poolsIn (now (pools .exit)) l)) (markPool ins) s (record { then = Then.On; state = s }) ⌝ }
 {
     let n = s.counts;
-    let held = s.registers;
     if !predicates::is_bx(ins) {
-        return s;
+        return;
     }
     let source = registers::source_of(held, ins.rm);
     if source == 0 {
-        return s;
+        return;
     }
     mark(pools, n.pools, source);
-    s
 }
 
-pub fn forget_written(s: State, ins: Ins) -> State
-    ensures { λ r. ⌜ Does same same (forgetWritten ins) s (record { then = Then.On; state = r }) ⌝ }
-{
-    let held = s.registers;
-    assign::with_registers(s, registers::forget(held, ins.defs))
-}
-
-pub fn pool_load(o: Options, s: State, ins: Ins, code: &[u8], pools: &mut [u32]) -> Stepped
+// The word goes into its register behind the blocks: none of those that follow asks for it.
+pub fn pool_load(o: Options, s: State, ins: Ins, code: &[u8], pools: &mut [u32]) -> Loaded
     requires { ⌜ Held poolRow (s .counts .pools) (now pools) ⌝ }
-    ensures { λ r. ⌜ Does (λ l. codeIn (now (code .entry)) (optionsIn o (poolsIn (now (pools .entry)) l))) (λ l. codeIn (now (code .entry)) (optionsIn o (poolsIn (now (pools .exit)) l))) (poolLoad ins) s r ⌝ }
+    ensures { λ r. ⌜ Does (λ l. codeIn (now (code .entry)) (optionsIn o (poolsIn (now (pools .entry)) l))) (λ l. loadedIn (r .load) (codeIn (now (code .entry)) (optionsIn o (poolsIn (now (pools .exit)) l)))) (poolLoad ins) s (r .stepped) ⌝ }
 {
     let n = s.counts;
     let p = s.progress;
     if !predicates::is_pool_load(ins) {
-        return assign::on(s);
+        return Loaded {
+            stepped: assign::on(s),
+            load: Load::Nothing,
+        };
     }
     let address = predicates::pool_address(p.address, ins);
     match word_from(code, o.base, address) {
         Word::Found(value) => {
-            let held = s.registers;
             let e = enter(pools, POOL_ROW, n.pools, [address, value, OTHER, 0]);
-            let t = assign::with_registers(
-                assign::count_pools(s, e.count),
-                registers::hold(held, ins.rd, value, address),
-            );
+            let t = assign::count_pools(s, e.count);
             if e.full {
-                return assign::refuse(t, LIST_FULL);
+                return Loaded {
+                    stepped: assign::refuse(t, LIST_FULL),
+                    load: Load::Nothing,
+                };
             }
-            assign::on(assign::pool_to(t, address))
+            Loaded {
+                stepped: assign::on(assign::pool_to(t, address)),
+                load: Load::Word {
+                    register: ins.rd,
+                    value,
+                    address,
+                },
+            }
         }
-        Word::Missing => assign::refuse(s, POOL_OUTSIDE),
+        Word::Missing => Loaded {
+            stepped: assign::refuse(s, POOL_OUTSIDE),
+            load: Load::Nothing,
+        },
     }
 }
 

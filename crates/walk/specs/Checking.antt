@@ -3,7 +3,7 @@ use Prim.Native.Nat.{ℕ}
 use mathlib.Core.Bool.{Bool, not}
 use lib.Bits.{bitOr}
 use Rattle.arm.specs.declared.Ins.{Ins}
-use Rattle.analysis.specs.Pattern.{pick, both}
+use Rattle.base.specs.Choice.{pick, both}
 use Rattle.predicates.specs.Predicates.{isNop, isPush, isStackStore}
 use Rattle.registers.specs.Registers.{lowestMissing, only}
 

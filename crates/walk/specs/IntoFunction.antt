@@ -3,7 +3,8 @@ use Prim.Native.Nat.{ℕ, _+_, max}
 use mathlib.Core.Bool.{false}
 use lib.Dec.{eqb, ltb}
 use lib.ListN.{replicate}
-use Rattle.analysis.specs.Pattern.{pick}
+use Rattle.base.specs.Refusals.{noEpilogue}
+use Rattle.base.specs.Choice.{pick}
 use Rattle.analysis.specs.declared.illegal_code.IllegalCodeState.the-variants.{Start as I-Start}
 use Rattle.analysis.specs.declared.function_branch.FunctionBranchState.the-variants.{Start as F-Start}
 use Rattle.analysis.specs.declared.inline_table.InlineTableState.the-variants.{Start as T-Start}
@@ -46,7 +47,7 @@ startOf start pool = pick (eqb pool 0) start (pick (ltb pool start) pool start)
 -- the record, unless it ends past the module
 abbrev pub recordTo : ℕ → ℕ → ℕ → ℕ → ℕ → Answer
 recordTo moduleEnd start last pool end =
-    pick (ltb moduleEnd end) (Refused 14 0 0)
+    pick (ltb moduleEnd end) (Refused noEpilogue 0 0)
     (Accepted (record { start = startOf start pool; end = end; «first_instruction» = start; «last_instruction_end» = last }))
 
 unfoldable pub intoFunction : Options → ℕ → ℕ → ℕ → ℕ → Answer

@@ -11,6 +11,7 @@ use analysis::function_branch::FunctionBranchState;
 use analysis::illegal_code::IllegalCodeState;
 use analysis::inline_table::InlineTableState;
 use analysis::jump_table::JumpTableStateArm;
+use base::refusal::NO_EPILOGUE;
 use predicates::Previous;
 use registers::Registers;
 ghost use mathlib.Core.Path.{_≡_};
@@ -101,7 +102,7 @@ pub fn into_function(
     let end = end_address(known_end, last_instruction_end, last_pool_address);
     if (o.module_end as u64) < end {
         return Answer::Refused {
-            number: 14,
+            number: NO_EPILOGUE,
             address: 0,
             register: 0,
         };

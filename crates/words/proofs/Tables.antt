@@ -10,13 +10,10 @@ use native.Mathlib.Nat.{eq-or-lt-of-le, le-of-suc-le-suc}
 use native.Mathlib.Omega.{arith}
 use lib.Dec.{T, eqb, eqb→eq, leb, leb→le}
 use lib.ListN.{length, getD, take, drop}
+use Rattle.base.specs.Choice.{both}
 use Rattle.words.specs.Names.{bytes, entry, names, nameNo, conditions, condOf}
 
 -- ---- a test at every number below n
-
-abbrev both : Bool → Bool → Bool
-both true b = b
-both false b = false
 
 both-left : (a b : Bool) → T (both a b) → T a
 both-left true b t = tt

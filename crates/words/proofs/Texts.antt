@@ -10,7 +10,7 @@ use native.Mathlib.Omega.{arith}
 use lib.Dec.{eqb, leb}
 use lib.ListN.{length, length-append, List·getD-eq-default}
 use borrow.Author.Tests.{eq-eqb, ne-eqb, le-leb, lt-leb, leb-true}
-use Rattle.text.specs.Hex.{pick}
+use Rattle.base.specs.Choice.{pick}
 use Rattle.text.specs.Put.{put, Written}
 use Rattle.text.proofs.Hex.{hex-length}
 use Rattle.text.proofs.Put.{put-length}

@@ -19,7 +19,7 @@ on-requires c κs = search needs
 returns : tie.Need-returns
 returns c =
     let start = c .before .before .before .before .before .before .before in
-    branch-not (start .args .o) (start .args .ins) (start .args .s) (start .args .word) (start .args .size) (start .args .block) (now (start .args .starts))
+    branch-not (start .args .o) (start .args .ins) (start .args .s) (start .args .word) (start .args .size) (start .args .inside) (now (start .args .starts))
     (now (start .args .labels)) (now (start .args .pools)) (c .before .before .before .branched .ensures)
     (sym (c .before .before .is-branch .ensures) ∙ not-true _ (c .before .if1 .taken)) (c .on .ensures)
 
@@ -43,7 +43,7 @@ same-length c = search needs
 returns-2 : tie.Need-returns-2
 returns-2 c =
     let start = c .before .before .before .before .before .before .before .before .before .before .before .before .before .before in
-    branch-label (start .args .o) (start .args .ins) (start .args .s) (start .args .word) (start .args .size) (start .args .block) (now (start .args .starts))
+    branch-label (start .args .o) (start .args .ins) (start .args .s) (start .args .word) (start .args .size) (start .args .inside) (now (start .args .starts))
     (now (start .args .labels)) (now (start .args .pools)) (c .before .before .before .before .before .before .before .before .before .before .branched .ensures)
     (sym (c .before .before .before .before .before .before .before .before .before .is-branch .ensures) ∙ not-false _ (c .before .before .before .before .before .before .before .before .if1 .left)) (c .before .before .before .before .before .before .before .is-in .ensures) (c .before .before .before .before .before .is-label .ensures)
     (c .before .before .before .before .if2 .taken) (c .before .before .handle-label .ensures)
@@ -60,7 +60,7 @@ end-requires c κs = search needs
 returns-3 : tie.Need-returns-3
 returns-3 c =
     let start = c .before .before .before .before .before .before .before .before .before .before .before .before .before .before in
-    branch-end (start .args .o) (start .args .ins) (start .args .s) (start .args .word) (start .args .size) (start .args .block) (now (start .args .starts))
+    branch-end (start .args .o) (start .args .ins) (start .args .s) (start .args .word) (start .args .size) (start .args .inside) (now (start .args .starts))
     (now (start .args .labels)) (now (start .args .pools)) (c .before .before .before .before .before .before .before .before .before .before .branched .ensures)
     (sym (c .before .before .before .before .before .before .before .before .before .is-branch .ensures) ∙ not-false _ (c .before .before .before .before .before .before .before .before .if1 .left)) (c .before .before .before .before .before .before .before .is-in .ensures) (c .before .before .before .before .before .is-label .ensures)
     (c .before .before .before .before .if2 .left) (c .before .before .before .before .before .before .is-conditional .ensures) (c .before .before .before .is-last .ensures)
@@ -72,7 +72,7 @@ call-to-requires c κs = search needs
 returns-4 : tie.Need-returns-4
 returns-4 c =
     let start = c .before .before .before .before .before .before .before .before .before .before .before .before .before in
-    branch-call (start .args .o) (start .args .ins) (start .args .s) (start .args .word) (start .args .size) (start .args .block) (now (start .args .starts))
+    branch-call (start .args .o) (start .args .ins) (start .args .s) (start .args .word) (start .args .size) (start .args .inside) (now (start .args .starts))
     (now (start .args .labels)) (now (start .args .pools)) (c .before .before .before .before .before .before .before .before .before .branched .ensures)
     (sym (c .before .before .before .before .before .before .before .before .is-branch .ensures) ∙ not-false _ (c .before .before .before .before .before .before .before .if1 .left)) (c .before .before .before .before .before .before .is-in .ensures) (c .before .before .before .before .is-label .ensures)
     (c .before .before .before .if2 .left) (c .before .before .before .before .before .is-conditional .ensures) (c .before .before .is-last .ensures)

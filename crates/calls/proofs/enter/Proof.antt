@@ -2,7 +2,7 @@
 -- Assumes nothing.
 use mathlib.Core.Bool.{false}
 use Rattle.calls.specs.Records.{none}
-use Rattle.calls.proofs.EditLaws.{rewritten-none, full-is, held-is, new-is}
+use Rattle.calls.proofs.EditLaws.{rewritten-none, full-is, room-is}
 use borrow.Author.Needs.{needs}
 use Rattle.calls.proofs.enter.Statement.{statement}
 use Rattle.calls.proofs.enter.Tie as tie
@@ -16,24 +16,20 @@ clear-requires c κs = search needs
 returns : tie.Need-returns
 returns c =
     let start = c .before .before .before .before in
-    let t = start .args .t in
-    λ calls n w h. rw (c .clear .ensures, rewritten-none false none 0 calls) (full-is t (start .args .call) calls n w h (c .before .before .before .last-of .ensures) (c .before .if1 .taken))
+    λ calls n w h. rw (c .clear .ensures, rewritten-none false none 0 calls) (full-is (start .args .t) (start .args .call) calls n w h (c .before .before .before .last-of .ensures) (c .before .if1 .taken))
 
 add-end : tie.Need-add-end
 add-end c = search needs
 
+count-of-requires : tie.Need-count-of-requires
+count-of-requires c κs = search needs
+
 returns-2 : tie.Need-returns-2
 returns-2 c =
     let start = c .before .before .before .before in
-    let t = start .args .t in
-    λ calls n w h. held-is t (start .args .call) calls n w h (c .before .before .before .last-of .ensures) (c .before .if1 .left) (c .if2 .taken)
-
-returns-3 : tie.Need-returns-3
-returns-3 c =
-    let start = c .before .before .before .before in
-    let t = start .args .t in
-    λ calls n w h. new-is t (start .args .call) calls n w h (c .before .before .before .last-of .ensures) (c .before .if1 .left) (c .if2 .left)
+    λ calls n w h. rw (c .count-of .ensures) (room-is (start .args .t) (start .args .call) calls n w h (c .before .before .before .last-of .ensures) (c .before .if1 .left))
 
 pub enter-spec : {M : Type 1} → statement M
 enter-spec =
-    tie.close (tie.spec last-of-requires clear-requires returns add-end returns-2 returns-3)
+    tie.close
+    (tie.spec last-of-requires clear-requires returns add-end count-of-requires returns-2)

@@ -21,7 +21,7 @@ returns : tie.Need-returns
 returns c =
     let start = c .before .before .before .before .before .before .before .before .before in
     let put = c .before .before .before .before .before .enter in
-    label-full (start .args .ins) (start .args .s) (start .args .size) (start .args .block) (now (start .args .pools)) (put .ensures) (put .kept .0)
+    label-full (start .args .ins) (start .args .s) (start .args .size) (start .args .inside) (now (start .args .pools)) (put .ensures) (put .kept .0)
     (c .before .before .count-labels .ensures) (c .before .if1 .taken) (c .refuse .ensures)
 
 label-raised-requires : tie.Need-label-raised-requires
@@ -30,7 +30,7 @@ label-raised-requires c κs = search needs
 past-pools-requires : tie.Need-past-pools-requires
 past-pools-requires c κs =
     let start = c .before .before .before .before .before .before .before .before .before .before in
-    at-label (start .args .ins) (start .args .block) (start .args .s) (start .args .size)
+    at-label (start .args .ins) (start .args .inside) (start .args .s) (start .args .size)
     (c .before .before .before .count-labels .ensures)
     (c .before .label-raised .ensures)
     (c .before .before .before .before .before .before .enter .ensures .held, start .pre .1, start .pre .2)
@@ -42,7 +42,7 @@ returns-2 : tie.Need-returns-2
 returns-2 c =
     let start = c .before .before .before .before .before .before .before .before .before .before .before in
     let put = c .before .before .before .before .before .before .before .enter in
-    label-in (start .args .ins) (start .args .s) (start .args .size) (start .args .block) (now (start .args .pools)) (put .ensures) (put .kept .0)
+    label-in (start .args .ins) (start .args .s) (start .args .size) (start .args .inside) (now (start .args .pools)) (put .ensures) (put .kept .0)
     (c .before .before .before .before .count-labels .ensures) (c .before .before .before .if1 .left) (c .before .before .label-raised .ensures) (c .past-pools .ensures)
 
 pub handle-label-spec : {M : Type 1} → statement M

@@ -1,5 +1,4 @@
 -- `outcome::end_at` meets its contract.
--- Assumes nothing.
 use borrow.Author.Needs.{needs}
 use Rattle.outcome.proofs.end_at.Statement.{statement}
 use Rattle.outcome.proofs.end_at.Tie as tie

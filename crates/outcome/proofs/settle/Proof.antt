@@ -1,5 +1,4 @@
 -- `outcome::settle` meets its contract.
--- Assumes nothing.
 use borrow.Author.Needs.{needs}
 use Rattle.outcome.proofs.settle.Statement.{statement}
 use Rattle.outcome.proofs.settle.Tie as tie

@@ -1,7 +1,7 @@
 -- `tables::inline_table` meets its contract.
-use mathlib.Core.Path.{refl}
-use Rattle.context.specs.Blocks.{inlineTable}
-use Rattle.tables.proofs.Laws.{inline-next}
+use Rattle.tables.proofs.Laws.{inline-none, inline-found, inline-refused}
+use mathlib.Core.Logic.{⊎-elim}
+use mathlib.Core.Path.{_∙_}
 use borrow.Author.Needs.{needs}
 use Rattle.tables.proofs.inline_table.Statement.{statement}
 use Rattle.tables.proofs.inline_table.Tie as tie
@@ -12,35 +12,53 @@ handle-requires c κs = search needs
 enum-known-next : tie.Need-enum-known-next
 enum-known-next c = search needs
 
-inline-table-to-requires : tie.Need-inline-table-to-requires
-inline-table-to-requires c κs = search needs
-
 get-table-requires : tie.Need-get-table-requires
 get-table-requires c κs = search needs
 
-enter-inline-table-requires : tie.Need-enter-inline-table-requires
-enter-inline-table-requires c κs = rw (c .before .before .inline-table-to .ensures) (c .before .before .before .before .before .before .before .before .before .before .pre)
+enum-known-table : tie.Need-enum-known-table
+enum-known-table c = search needs
+
+enter-requires : tie.Need-enter-requires
+enter-requires c κs = search needs
+
+full-refusal-requires : tie.Need-full-refusal-requires
+full-refusal-requires c κs = search needs
 
 enum-told : tie.Need-enum-told
 enum-told c = search needs
 
-refuse-requires : tie.Need-refuse-requires
-refuse-requires c κs = search needs
+enum-told-2 : tie.Need-enum-told-2
+enum-told-2 c = search needs
+
+count-inline-tables-requires : tie.Need-count-inline-tables-requires
+count-inline-tables-requires c κs = search needs
+
+inline-table-to-requires : tie.Need-inline-table-to-requires
+inline-table-to-requires c κs = search needs
+
+on-unless-refused-requires : tie.Need-on-unless-refused-requires
+on-unless-refused-requires c κs = search needs
 
 same-length : tie.Need-same-length
-same-length c = search needs
+same-length c =
+    ⊎-elim (λ w. rw (w .12) (w .8 .kept .0)) (⊎-elim (λ w. rw (w .6)) (λ w. rw (w .2))) (c .before .before .before .match .came)
 
 returns : tie.Need-returns
 returns c =
-    let start = c .before .before .before .before .before .before .before .before .before .before .before .before .before in
-    inline-next (start .args .ins) (start .args .s) (c .before .before .before .before .before .before .before .before .before .handle .ensures) (c .before .before .before .before .before .before .before .next .given .1) (c .before .before .before .before .get-table .ensures)
-    (c .before .before .before .before .before .inline-table-to .ensures) (c .before .before .enter-inline-table .ensures)
-
-returns-2 : tie.Need-returns-2
-unfolding inlineTable
-returns-2 c =
-    λ l h. rw (c .refuse .ensures, ← c .before .before .before .handle .ensures, c .before .enum-told .given .1)
-    (record { stays = refl; call = refl; holds = h; says = refl })
+    let start = c .before .before .before .before .before .before .before in
+    let s = start .args .s in
+    let m = c .before .before .before .match in
+    let is = c .before .before .before .before .handle .ensures in
+    let counts = c .before .before .count-inline-tables .ensures in
+    let to = c .before .inline-table-to .ensures in
+    let answer = c .on-unless-refused .ensures in
+    ⊎-elim
+    (λ w. rw (w .12)
+    (inline-found (start .args .ins) s is counts to answer (w .1 .given .1) (w .3 .ensures) (w .5 .given .1) (w .8 .ensures) (w .8 .kept .0) (w .13) (w .14) (w .15 ∙ w .11 .ensures)))
+    (⊎-elim
+    (λ w. inline-none (start .args .ins) s is counts to answer (w .1 .given .1) (w .3 .ensures) (w .5 .given .1) (w .6) (w .7) (w .8) (w .9))
+    (λ w. inline-refused (start .args .ins) s is counts to answer (w .1 .given .1) (w .2) (w .4) (w .5)))
+    (m .came)
 
 pub inline-table-spec : {M : Type 1} → statement M
 inline-table-spec =
@@ -48,11 +66,14 @@ inline-table-spec =
     (tie.spec
     handle-requires
     enum-known-next
-    inline-table-to-requires
     get-table-requires
-    enter-inline-table-requires
+    enum-known-table
+    enter-requires
+    full-refusal-requires
     enum-told
-    refuse-requires
+    enum-told-2
+    count-inline-tables-requires
+    inline-table-to-requires
+    on-unless-refused-requires
     same-length
-    returns
-    returns-2)
+    returns)

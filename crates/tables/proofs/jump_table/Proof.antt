@@ -1,7 +1,7 @@
 -- `tables::jump_table` meets its contract.
-use mathlib.Core.Path.{refl}
-use Rattle.context.specs.Blocks.{jumpTable}
-use Rattle.tables.proofs.Laws.{jump-next, jump-found}
+use Rattle.tables.proofs.Laws.{jump-next, jump-found, jump-refused}
+use mathlib.Core.Logic.{⊎-elim}
+use mathlib.Core.Path.{_∙_}
 use borrow.Author.Needs.{needs}
 use Rattle.tables.proofs.jump_table.Statement.{statement}
 use Rattle.tables.proofs.jump_table.Tie as tie
@@ -12,47 +12,45 @@ handle-requires c κs = search needs
 enum-known-next : tie.Need-enum-known-next
 enum-known-next c = search needs
 
+enum-known-next-2 : tie.Need-enum-known-next-2
+enum-known-next-2 c = search needs
+
+enter-requires : tie.Need-enter-requires
+enter-requires c κs = search needs
+
+full-refusal-requires : tie.Need-full-refusal-requires
+full-refusal-requires c κs = search needs
+
+enum-told : tie.Need-enum-told
+enum-told c = search needs
+
+count-jump-tables-requires : tie.Need-count-jump-tables-requires
+count-jump-tables-requires c κs = search needs
+
 jump-table-to-requires : tie.Need-jump-table-to-requires
 jump-table-to-requires c κs = search needs
 
 raise-to-table-requires : tie.Need-raise-to-table-requires
 raise-to-table-requires c κs = search needs
 
-enum-known-next-2 : tie.Need-enum-known-next-2
-enum-known-next-2 c = search needs
-
-jump-table-to-requires-2 : tie.Need-jump-table-to-requires-2
-jump-table-to-requires-2 c κs = search needs
-
-enter-jump-table-requires : tie.Need-enter-jump-table-requires
-enter-jump-table-requires c κs = rw (c .before .jump-table-to2 .ensures) (c .before .before .before .before .before .before .before .before .before .pre)
-
-enum-told : tie.Need-enum-told
-enum-told c = search needs
-
-refuse-requires : tie.Need-refuse-requires
-refuse-requires c κs = search needs
+same-length : tie.Need-same-length
+same-length c =
+    ⊎-elim (λ w. rw (w .3)) (⊎-elim (λ w. rw (w .8) (w .4 .kept .0)) (λ w. rw (w .2))) (c .before .before .before .match .came)
 
 returns : tie.Need-returns
 returns c =
-    let start = c .before .before .before .before .before .before .before .before .before in
-    jump-next (start .args .s) _ (start .args .ins) (c .before .before .before .before .before .handle .ensures) (c .before .jump-table-to .ensures) (c .before .before .before .next .given .1)
-    (c .raise-to-table .ensures)
-
-same-length : tie.Need-same-length
-same-length c = search needs
-
-returns-2 : tie.Need-returns-2
-returns-2 c =
-    let start = c .before .before .before .before .before .before .before .before .before .before .before .before in
-    jump-found (start .args .s) _ (start .args .ins) (c .before .before .before .before .before .before .before .before .handle .ensures) (c .before .before .before .before .jump-table-to2 .ensures) (c .before .before .before .before .before .before .next2 .given .1)
-    (c .before .before .enter-jump-table .ensures)
-
-returns-3 : tie.Need-returns-3
-unfolding jumpTable
-returns-3 c =
-    λ l h. rw (c .refuse .ensures, ← c .before .before .before .handle .ensures, c .before .enum-told .given .1)
-    (record { stays = refl; call = refl; holds = h; says = refl })
+    let start = c .before .before .before .before .before .before .before in
+    let s = start .args .s in
+    let is = c .before .before .before .before .handle .ensures in
+    let counts = c .before .before .count-jump-tables .ensures in
+    let to = c .before .jump-table-to .ensures in
+    let raised = c .raise-to-table .ensures in
+    ⊎-elim
+    (λ w. jump-next (start .args .ins) s is counts to raised (w .1 .given .1) (w .3) (w .4) (w .5) (w .6))
+    (⊎-elim
+    (λ w. rw (w .8) (jump-found (start .args .ins) s is counts to raised (w .1 .given .1) (w .4 .ensures) (w .4 .kept .0) (w .9) (w .10) (w .11 ∙ w .7 .ensures)))
+    (λ w. jump-refused (start .args .ins) s is counts to raised (w .1 .given .1) (w .2) (w .4) (w .5)))
+    (c .before .before .before .match .came)
 
 pub jump-table-spec : {M : Type 1} → statement M
 jump-table-spec =
@@ -60,14 +58,12 @@ jump-table-spec =
     (tie.spec
     handle-requires
     enum-known-next
+    enum-known-next-2
+    enter-requires
+    full-refusal-requires
+    enum-told
+    count-jump-tables-requires
     jump-table-to-requires
     raise-to-table-requires
-    enum-known-next-2
-    jump-table-to-requires-2
-    enter-jump-table-requires
-    enum-told
-    refuse-requires
-    returns
     same-length
-    returns-2
-    returns-3)
+    returns)

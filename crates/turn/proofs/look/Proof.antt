@@ -1,5 +1,4 @@
 -- `turn::look` meets its contract.
--- Assumes nothing.
 use mathlib.Core.Path.{_≡_, refl, sym, ap, _∙_}
 use denote.Ref.{now}
 use Rattle.context.specs.Lists.{lists}
@@ -21,9 +20,7 @@ decode-requires : tie.Need-decode-requires
 decode-requires c κs = search needs
 
 handle-ins-requires : tie.Need-handle-ins-requires
-handle-ins-requires c κs =
-    let fits = word-fits (now (c .before .before .before .before .before .before .before .before .before .before .before .before .before .before .before .before .before .before .before .args .code)) (c .before .before .before .before .before .before .before .before .before .before .before .before .before .before .before .before .before .before .before .args .o .base) (c .before .before .before .before .before .before .before .before .before .before .before .before .before .before .before .before .before .before .before .args .w .progress .address) _ (sym (c .before .before .before .before .before .before .before .before .before .before .word-from .ensures) ∙ c .before .before .before .before .before .before .before .before .word .given .1) (c .before .before .before .before .before .before .before .before .before .before .before .before .before .before .before .before .before .before .before .pre .0) in
-    rw (c .before .before .before .before .before .before .state-of .ensures) (refl, c .before .before .before .before .before .before .before .before .before .before .before .before .before .before .before .before .before .before .before .pre .2, c .before .before .before .before .before .before .before .before .before .before .before .before .before .before .before .before .before .before .before .pre .1, fits, fits)
+handle-ins-requires c κs = let fits = word-fits (now (c .before .before .before .before .before .before .before .before .before .before .before .before .before .before .before .before .before .before .before .args .code)) (c .before .before .before .before .before .before .before .before .before .before .before .before .before .before .before .before .before .before .before .args .o .base) (c .before .before .before .before .before .before .before .before .before .before .before .before .before .before .before .before .before .before .before .args .w .progress .address) _ (sym (c .before .before .before .before .before .before .before .before .before .before .word-from .ensures) ∙ c .before .before .before .before .before .before .before .before .word .given .1) (c .before .before .before .before .before .before .before .before .before .before .before .before .before .before .before .before .before .before .before .pre .0) in rw (c .before .before .before .before .before .before .state-of .ensures) (refl, c .before .before .before .before .before .before .before .before .before .before .before .before .before .before .before .before .before .before .before .pre .2, c .before .before .before .before .before .before .before .before .before .before .before .before .before .before .before .before .before .before .before .pre .1, fits, fits)
 
 settle-requires : tie.Need-settle-requires
 settle-requires c κs = search needs

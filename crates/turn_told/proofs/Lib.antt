@@ -1,0 +1,2 @@
+-- The laws behind this crate's proofs.
+pub mod Laws
