@@ -6,13 +6,13 @@ use std::collections::BTreeMap;
 use std::fmt::Write;
 use std::hint::black_box;
 use std::time::Instant;
-use std::{array, env, fs, mem};
+use std::{env, fs, mem};
 
 use oracle::analysis::functions::walk::{Answer, Request};
 
 #[path = "../ffi/rust/src/lib.rs"]
 mod cugbejin;
-use cugbejin::{Counts, Function, Lists, Options, Refusal};
+use cugbejin::{Call, Function, Lists, Options, Pool, Refusal, Table};
 
 const BASE: u32 = 0x0200_0000;
 const ROUNDS: usize = 40;
@@ -20,19 +20,28 @@ const ROUND_NANOSECONDS: f64 = 2e6;
 
 // ---- the library
 
-/// The numbers in a row of each list: labels, pools, jump tables, inline tables, calls.
-const ROWS: [usize; 5] = [1, 3, 2, 2, 4];
-
 /// The lists that the library is lent.
-struct Lent([Vec<u32>; 5]);
+struct Lent {
+    labels: Vec<u32>,
+    pools: Vec<Pool>,
+    jump_tables: Vec<Table>,
+    inline_tables: Vec<Table>,
+    calls: Vec<Call>,
+}
 
 impl Lent {
-    /// So many places for labels, pools and calls, and for tables.
-    fn new(places: usize, tables: usize) -> Self {
-        Self(array::from_fn(|list| vec![0; ROWS[list] * if ROWS[list] == 2 { tables } else { places }]))
+    /// So many rows for labels, pools and calls, and for tables.
+    fn new(rows: usize, tables: usize) -> Self {
+        Self {
+            labels: vec![0; rows],
+            pools: vec![Pool::default(); rows],
+            jump_tables: vec![Table::default(); tables],
+            inline_tables: vec![Table::default(); tables],
+            calls: vec![Call::default(); rows],
+        }
     }
 
-    /// As many places as a walk over this code can fill: one for each word.
+    /// As many rows as a walk over this code can fill: one for each word.
     fn bounded(request: &Request) -> Self {
         let words = request.code.len() / 4;
         Self::new(words, words)
@@ -41,7 +50,7 @@ impl Lent {
     fn run(&mut self, request: &Request) -> Result<Function, Refusal> {
         let &Request { base, module_start, module_end, known_end, check, .. } = request;
         let options = Options { base, module_start, module_end, known_end, check };
-        let [labels, pools, jump_tables, inline_tables, calls] = self.0.each_mut().map(|list| &mut list[..]);
+        let Self { labels, pools, jump_tables, inline_tables, calls } = self;
         let mut lists = Lists { labels, pools, jump_tables, inline_tables, calls };
         cugbejin::run(options, request.start, &request.code, &request.existing_starts, &mut lists)
     }
@@ -53,16 +62,18 @@ impl Lent {
             Err(Refusal { number, address, .. }) => return format!("refused {number} {address:08x}\n"),
         };
         let mut text = format!("function {start:08x} {end:08x} {first_instruction:08x} {last_instruction_end:08x}\n");
-        let Counts { labels, pools, jump_tables, inline_tables, calls } = counts;
-        let rows = |list: usize, count: usize| self.0[list].chunks_exact(ROWS[list]).take(count);
-        rows(0, labels).for_each(|row| writeln!(text, "label {:08x}", row[0]).unwrap());
-        for row in rows(1, pools) {
-            writeln!(text, "pool {:08x} {:08x} {}", row[0], row[1], ["other", "call"][row[2] as usize]).unwrap();
+        self.labels[..counts.labels].iter().for_each(|label| writeln!(text, "label {label:08x}").unwrap());
+        for Pool { address, value, mark } in &self.pools[..counts.pools] {
+            writeln!(text, "pool {address:08x} {value:08x} {}", ["other", "call"][*mark as usize]).unwrap();
         }
-        rows(2, jump_tables).for_each(|row| writeln!(text, "jump {:08x} {:08x}", row[0], row[1]).unwrap());
-        rows(3, inline_tables).for_each(|row| writeln!(text, "inline {:08x} {:08x}", row[0], row[1]).unwrap());
-        for row in rows(4, calls) {
-            writeln!(text, "call {:08x} {:08x} {:08x} {}", row[0], row[1], row[2], ["arm", "thumb"][row[3] as usize]).unwrap();
+        for Table { address, size } in &self.jump_tables[..counts.jump_tables] {
+            writeln!(text, "jump {address:08x} {size:08x}").unwrap();
+        }
+        for Table { address, size } in &self.inline_tables[..counts.inline_tables] {
+            writeln!(text, "inline {address:08x} {size:08x}").unwrap();
+        }
+        for Call { address, word, destination, mode } in &self.calls[..counts.calls] {
+            writeln!(text, "call {address:08x} {word:08x} {destination:08x} {}", ["arm", "thumb"][*mode as usize]).unwrap();
         }
         text
     }
