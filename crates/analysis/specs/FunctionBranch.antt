@@ -1,4 +1,5 @@
 -- function_branch.rs: `handle` and `is_function_branch`, case by case in the source's order.
+-- Assumes nothing.
 use mathlib.Core.Bool.{Bool, true, false}
 use lib.Dec.{eqb}
 use Rattle.classes.specs.declared.Class.the-variants.{Eor, Mov, Ldr, Add, B}

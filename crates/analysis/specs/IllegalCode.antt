@@ -1,4 +1,5 @@
 -- illegal_code.rs, the ARM arms: `handle`, case by case in the source's order.
+-- Assumes nothing.
 use Prim.Native.Nat.{ℕ, _/_, _%_, _^_}
 use mathlib.Core.Bool.{Bool, true, false}
 use lib.Dec.{eqb}

@@ -1,5 +1,6 @@
 -- inline_table.rs: `handle` and `get_table`, case by case in the source's order. A sum that leaves 32 bits is refused: below 0 or above
 -- at the SUB, a table's end where the table would be made.
+-- Assumes nothing.
 use Prim.Native.Nat.{ℕ, _+_, _-_}
 use mathlib.Core.Bool.{Bool, true, false}
 use lib.Dec.{eqb, ltb}

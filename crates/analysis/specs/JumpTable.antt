@@ -1,5 +1,6 @@
 -- jump_table.rs, JumpTableStateArm: `check_start`, `handle` and `table_end_address`, case by case in the source's order. A table whose size
 -- or end leaves 32 bits is refused.
+-- Assumes nothing.
 use Prim.Native.Nat.{ℕ, _+_, _*_}
 use mathlib.Core.Bool.{Bool, true, false}
 use lib.Dec.{eqb, ltb}
@@ -81,8 +82,8 @@ inState (ValidJumpTable table limit) address i = validTable table limit address
 unfoldable pub jumpTable : JumpTableStateArm → ℕ → Ins → JumpTableAnswer
 jumpTable s address i = pick (checkStart i) (Next (JumpOrBranchSigned (i .rn) (limitOf (i .op2)))) (inState s address i)
 
-unfoldable pub endOf : ℕ → ℕ → TableEnd
-endOf table limit = pick (ltb (table + (limit + 1) * 4) 0x1_0000_0000) (At (table + (limit + 1) * 4)) End-Refused
+unfoldable pub endOfEntries : ℕ → ℕ → TableEnd
+endOfEntries table limit = pick (ltb (table + (limit + 1) * 4) 0x1_0000_0000) (At (table + (limit + 1) * 4)) End-Refused
 
 abbrev pub tableEnd : JumpTableStateArm → TableEnd
 tableEnd CmpReg = Nothing
@@ -90,4 +91,4 @@ tableEnd (JumpOrBranchSigned index limit) = Nothing
 tableEnd (SignedBaseline index limit) = Nothing
 tableEnd (JumpSigned index limit) = Nothing
 tableEnd (JumpAfterReturn index limit) = Nothing
-tableEnd (ValidJumpTable table limit) = endOf table limit
+tableEnd (ValidJumpTable table limit) = endOfEntries table limit

@@ -1,4 +1,5 @@
 -- What the machines' patterns ask of an instruction.
+-- Assumes nothing.
 use Prim.Native.Nat.{ℕ}
 use mathlib.Core.Bool.{Bool, true, false, Bool·beq}
 use lib.Dec.{eqb}

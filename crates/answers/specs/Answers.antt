@@ -1,5 +1,6 @@
 -- What an answer says, in document 01's terms: the number of a refusal, 0 for none; the instruction's address that it carries; and the
 -- undefined register of number 11.
+-- Assumes nothing.
 use Prim.Native.Nat.{ℕ}
 use Rattle.walk.specs.declared.Answer.{Answer}
 use Rattle.walk.specs.declared.Answer.the-variants.{Going, Accepted, Refused}

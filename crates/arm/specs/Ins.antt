@@ -1,4 +1,5 @@
 -- A decoded word, field by field.
+-- Assumes nothing.
 use Prim.Native.Nat.{ℕ, _/_, _%_, _^_}
 use mathlib.Core.Bool.{Bool}
 use lib.Dec.{eqb, ltb}

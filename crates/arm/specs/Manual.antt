@@ -1,4 +1,5 @@
 -- What the manual and the naming rules say of a word, as propositions. The theorems about them stand in proofs/ManualLaws.antt and StackLaws.antt.
+-- Assumes nothing.
 use mathlib.Core.List.{List·Memᴰ}
 use mathlib.Core.Path.{_≡_}
 use mathlib.Core.Logic.{_⊎_}

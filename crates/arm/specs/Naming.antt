@@ -1,4 +1,5 @@
 -- The naming rules of document 01, and of document 02 for pushes and pops of one register; and a word's class.
+-- Assumes nothing.
 use Prim.Native.Nat.{ℕ, _/_, _%_, _^_}
 use mathlib.Core.Bool.{Bool, true, false}
 use lib.Dec.{eqb}

@@ -1,7 +1,6 @@
 -- What two tests at once come to.
 -- Assumes nothing.
-use mathlib.Core.Path.{_≡_, refl}
-use mathlib.Core.Bool.{Bool, true, false, false≢true}
+use Rattle.base.proofs.Prelude.{refl, _≡_, true, false, Bool, false≢true}
 use Rattle.base.specs.Choice.{both}
 
 pub both-first : (s t : Bool) → both s t ≡ true → s ≡ true

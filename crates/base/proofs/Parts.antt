@@ -1,10 +1,6 @@
 -- The part of a list from a place on.
 -- Assumes nothing.
-use mathlib.Core.Path.{_≡_}
-use mathlib.Core.List.{List}
-use Prim.Native.Nat.{ℕ, _-_}
-use native.Mathlib.Omega.{arith}
-use lib.ListN.{length, take, drop, length-drop}
+use Rattle.base.proofs.Prelude.{_≡_, List, ℕ, _-_, arith, length, drop, take, length-drop}
 use lib.Seq.{take-all}
 
 pub rest-whole : (s : List ℕ) (o : ℕ) → take (length s - o) (drop o s) ≡ drop o s

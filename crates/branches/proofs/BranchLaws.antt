@@ -1,11 +1,6 @@
 -- A return's long-branch test and tail call, and a branch by where it goes.
 -- Assumes nothing.
-use mathlib.Core.Path.{_≡_, refl, ap, _∙_}
-use mathlib.Core.Bool.{Bool, true, false, not}
-use mathlib.Core.List.{List}
-use Prim.Native.Nat.{ℕ, _+_, _<_, _^_}
-use lib.Dec.{ltb}
-use lib.ListN.{length}
+use Rattle.base.proofs.Prelude.{_∙_, refl, _≡_, ap, true, false, Bool, not, List, ℕ, _+_, _<_, _^_, ltb, length}
 use Rattle.analysis.specs.FunctionBranch.{functionBranch, isFunctionBranch}
 use Rattle.arm.specs.declared.Ins.{Ins}
 use Rattle.arm.specs.Ins.{isConditional}
@@ -20,7 +15,7 @@ use Rattle.context.specs.declared.Stepped.{Stepped}
 use Rattle.context.specs.declared.Then.the-variants.{Ends}
 use Rattle.context.specs.Context.{Context, Step, ends, _▸_, functionBranchTo, labelRow, poolRow}
 use Rattle.context.specs.Blocks.{arm, callTo, isDestination, isEntryAt, isLongBranchDestination, isIn, isOtherFunction, handleLabel, branch, branches, branched}
-use Rattle.context.specs.State.{World, Holds, Comes, Does, Puts, Told, same, labelsIn, poolsIn, optionsIn, startsIn, asksCalls, hasPlace, contextOf, machined, putting}
+use Rattle.context.specs.State.{World, Holds, Comes, Does, Puts, ToldOfCalls, same, labelsIn, poolsIn, optionsIn, startsIn, asksCalls, hasPlace, contextOf, machined, putting}
 use Rattle.context.proofs.Laws.{onwards, call-comes, settled, go-on}
 
 -- ---- a return
@@ -33,7 +28,7 @@ module _ (size : ℕ) (isCalled : Bool) (s : State) (l : World) where
   abbrev isEntry : Bool
   isEntry = isEntryAt (l .given .code) (l .given .options .base) end
 
-  pub long-branch : {inside returns : Bool} → inside ≡ false → returns ≡ true → Told size inside returns isCalled s l
+  pub long-branch : {inside returns : Bool} → inside ≡ false → returns ≡ true → ToldOfCalls size inside returns isCalled s l
       → both (ltb end (s .progress .«last_pool_address»)) (both isCalled (not isEntry)) ≡ isLongBranchDestination end (contextOf s l)
   unfolding isLongBranchDestination asksCalls
   long-branch b r told = step (ltb end (s .progress .«last_pool_address»)) refl

@@ -1,13 +1,7 @@
 -- Which words are unconditional pushes of LR, by their fields.
 -- Assumes nothing.
-use mathlib.Core.Path.{_≡_, refl, sym, ap, _∙_}
-use mathlib.Core.Bool.{Bool, true, false}
-use mathlib.Core.Logic.{_⊎_, inl, inr, ⊎-elim}
-use Prim.Native.Nat.{ℕ, _/_, _%_, _<_, _≤_, _^_}
-use native.Mathlib.Nat.{eq-or-lt-of-le}
-use native.Mathlib.Omega.{arith}
-use lib.Dec.{eqb, ltb, eqb→eq}
-use borrow.Author.Tests.{eq-eqb, ne-eqb, le-ltb, ltb-true, ltb-false}
+use Rattle.base.proofs.Prelude.{_∙_, sym, refl, _≡_, ap, false, true, Bool, ⊎-elim, inr, inl, _⊎_, _≤_, ℕ, _<_, _^_, _/_, _%_, arith, eq-or-lt-of-le}
+use Rattle.base.proofs.Prelude.{eqb, ltb, eqb→eq, eq-eqb, ne-eqb, le-ltb, ltb-true, ltb-false}
 use Rattle.arm.specs.Ins.{decodeOf}
 use Rattle.arm.specs.Manual.{IsPush}
 use Rattle.arm.specs.Naming.{classOf, regsOf, isOfOne}

@@ -26,7 +26,7 @@ ghost use Rattle.predicates.specs.Predicates.{isBranch, isEntryInstruction};
 ghost use Rattle.rows.specs.Map.{Held, mapIn, stands-in};
 ghost use Rattle.context.specs.Context.{labelRow, poolRow, functionBranchTo};
 ghost use Rattle.context.specs.Blocks.{branchOutside, isEntryWord, isEntryAt, finalReturn, entryAfterBranch, branch, functionCall};
-ghost use Rattle.context.specs.State.{Does, Puts, PutsIf, Told, same, machined, labelsIn, poolsIn, codeIn, optionsIn, startsIn};
+ghost use Rattle.context.specs.State.{Does, Puts, PutsIf, ToldOfCalls, same, machined, labelsIn, poolsIn, codeIn, optionsIn, startsIn};
 
 // A call's mode.
 const ARM: u32 = 0;
@@ -101,7 +101,7 @@ pub fn final_return(
     code: &[u8],
 ) -> Stepped
     requires { ⌜ s .progress .address + size < 2 ^ 32 ⌝ }
-    ensures { λ r. ⌜ PutsIf (Told size inside returns «is_called_next» s) (λ l. codeIn (now (code .entry)) (optionsIn o l)) (λ l. codeIn (now (code .entry)) (optionsIn o l)) (finalReturn ins word size inside returns) s r ⌝ }
+    ensures { λ r. ⌜ PutsIf (ToldOfCalls size inside returns «is_called_next» s) (λ l. codeIn (now (code .entry)) (optionsIn o l)) (λ l. codeIn (now (code .entry)) (optionsIn o l)) (finalReturn ins word size inside returns) s r ⌝ }
 {
     if inside {
         return assign::on(s);

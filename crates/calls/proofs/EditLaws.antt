@@ -1,16 +1,9 @@
 -- What a change leaves of the records: turn by turn, the insert, and zeros.
 -- Assumes nothing.
-use mathlib.Core.Path.{_≡_, refl, sym, ap, _∙_}
-use mathlib.Core.Bool.{Bool, true, false, not}
-use mathlib.Core.List.{List, [], _∷_, _++_, map}
-use Prim.Native.Nat.{ℕ, zero, suc, _+_, _*_, _≤_, _<_, zero-le}
-use native.Mathlib.Nat.{not-suc-le-zero, le-of-suc-le-suc}
-use native.Mathlib.Numerals.{add-one}
-use native.Mathlib.Omega.{arith}
-use borrow.Author.Tests.{leb-true, le-leb, lt-leb}
-use lib.Dec.{leb, ltb, eqb}
-use lib.ListN.{length, getD, set, take, drop, replicate, length-append, length-map, take-append-drop}
-use lib.Seq.{take-at, drop-at, drop-cons, length-take-le}
+use Rattle.base.proofs.Prelude.{_∙_, sym, refl, _≡_, ap, false, true, Bool, not, List, [], _∷_, _++_, map, _≤_, ℕ, _+_, _<_, suc, _*_, zero, zero-le}
+use Rattle.base.proofs.Prelude.{arith, le-of-suc-le-suc, not-suc-le-zero, add-one, eqb, ltb, leb, length, getD, drop, take, replicate, set}
+use Rattle.base.proofs.Prelude.{length-append, take-append-drop, drop-cons, length-take-le, drop-at, take-at, le-leb, lt-leb, leb-true}
+use lib.ListN.{length-map}
 use Rattle.base.specs.Choice.{pick}
 use Rattle.context.specs.Context.{callRow}
 use Rattle.rows.specs.Order.{ascending, zeros}

@@ -1,14 +1,7 @@
 -- The numbers of records as a list of rows: its first rows, and the test that it holds a map.
 -- Assumes nothing.
-use mathlib.Core.Path.{_≡_, refl, ap}
-use mathlib.Core.Bool.{Bool, true, false}
-use mathlib.Core.List.{List, [], _∷_, map}
-use Prim.Native.Nat.{ℕ, zero, suc, _*_, _≤_}
-use native.Mathlib.Nat.{not-suc-le-zero, le-of-suc-le-suc}
-use native.Mathlib.Omega.{arith}
-use borrow.Author.Tests.{leb-true, leb-false, le-leb, lt-leb}
-use lib.Dec.{leb}
-use lib.ListN.{length, take, drop}
+use Rattle.base.proofs.Prelude.{refl, _≡_, ap, false, true, Bool, List, [], _∷_, map, _≤_, ℕ, suc, _*_, zero, arith, le-of-suc-le-suc}
+use Rattle.base.proofs.Prelude.{not-suc-le-zero, leb, length, drop, take, le-leb, lt-leb, leb-true, leb-false}
 use lib.Seq.{drop-nil}
 use Rattle.base.specs.Choice.{both}
 use Rattle.context.specs.Context.{callRow}

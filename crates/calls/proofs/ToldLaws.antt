@@ -1,15 +1,10 @@
 -- What the records from a place on tell, and what all of them do.
 -- Assumes nothing.
-use mathlib.Core.Path.{_≡_, refl, sym, ap, _∙_}
-use mathlib.Core.Bool.{Bool, true, false, _&&_, _||_}
-use mathlib.Core.List.{List, [], _∷_, map}
-use Prim.Native.Nat.{ℕ, zero, suc, _+_, _-_, _≤_, _<_}
-use native.Mathlib.Nat.{add-zero, zero-add}
-use native.Mathlib.Omega.{arith}
-use borrow.Author.Tests.{leb-true, leb-false, le-leb, lt-leb}
-use lib.Dec.{leb, ltb, eqb}
-use lib.ListN.{length, getD, drop}
-use lib.Seq.{take-nil, drop-nil, drop-cons}
+use Rattle.base.proofs.Prelude.{_∙_, sym, refl, _≡_, ap, false, true, Bool, List, [], _∷_, map, _≤_, ℕ, _+_, _<_, _-_, suc, zero, arith, add-zero}
+use Rattle.base.proofs.Prelude.{eqb, ltb, leb, length, getD, drop, drop-cons, le-leb, lt-leb, leb-true, leb-false}
+use mathlib.Core.Bool.{_&&_, _||_}
+use native.Mathlib.Nat.{zero-add}
+use lib.Seq.{take-nil, drop-nil}
 use Rattle.base.specs.Choice.{pick, both, either}
 use Rattle.context.specs.Blocks.{isDestination}
 use Rattle.rows.specs.Order.{rising, ascending, zeros}

@@ -1,4 +1,5 @@
 -- Document 02, W11: a line for each class, in document 01's order.
+-- Assumes nothing.
 use Prim.Native.Nat.{ℕ}
 use mathlib.Core.List.{List, [], _∷_, _++_}
 use Rattle.tally.specs.Census.{Entry, census}

@@ -1,4 +1,5 @@
 -- The classes and their numbers, in document 01's order: the manual's names as they are printed, then the names that 01 adds.
+-- Assumes nothing.
 use Prim.Native.Nat.{ℕ}
 use mathlib.Core.Bool.{Bool}
 use lib.Dec.{eqb}

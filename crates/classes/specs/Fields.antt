@@ -1,4 +1,5 @@
 -- The fields of an instruction word, at the places that the manual's diagrams give them.
+-- Assumes nothing.
 use Prim.Native.Nat.{ℕ, _/_, _%_, _^_}
 
 -- bit i

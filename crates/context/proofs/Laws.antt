@@ -1,13 +1,7 @@
 -- What the code of the blocks comes to: insertions, a block that puts no call, and one block after another.
 -- Assumes nothing.
-use mathlib.Core.Path.{_≡_, refl, sym, ap, _∙_}
-use mathlib.Core.Bool.{Bool, true, false, not}
-use mathlib.Core.List.{List, [], _∷_}
-use Prim.Native.Nat.{ℕ, _+_, _<_, _^_}
-use lib.Dec.{ltb, eqb}
-use lib.ListN.{length}
-use native.Mathlib.Omega.{arith}
-use borrow.Author.Tests.{le-ltb, eq-eqb}
+use Rattle.base.proofs.Prelude.{_∙_, sym, refl, _≡_, ap, false, true, Bool, not, List, [], _∷_, ℕ, _+_, _<_, _^_, arith, eqb, ltb, length, eq-eqb}
+use Rattle.base.proofs.Prelude.{le-ltb}
 use Rattle.base.specs.Choice.{pick}
 use Rattle.base.specs.Refusals.{listFull}
 use Rattle.rows.specs.Rows.{inserted}

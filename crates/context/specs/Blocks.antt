@@ -69,11 +69,11 @@ unfoldable pub skipPool : Context → Step
 skipPool c = pick (stands-in (c .maps .pools) (c .progress .address)) (goes (goingTo (c .progress .address + 4) c)) (on c)
 
 -- Function::inline_table_at: the first table that holds the address
-abbrev pub endOf : List ℕ → ℕ
-endOf table = keyOf table + getD table 1 0
+abbrev pub tableEndAt : List ℕ → ℕ
+tableEndAt table = keyOf table + getD table 1 0
 
 abbrev pub isWithin : ℕ → List ℕ → Bool
-isWithin a table = both (leb (keyOf table) a) (ltb a (endOf table))
+isWithin a table = both (leb (keyOf table) a) (ltb a (tableEndAt table))
 
 unfoldable pub inlineTableAt : ℕ → List (List ℕ) → Option (List ℕ)
 inlineTableAt a [] = none
@@ -82,7 +82,7 @@ inlineTableAt a (t ∷ ts) = pick (isWithin a t) (some t) (inlineTableAt a ts)
 -- if let Some(inline_table) = ..; an end that leaves 32 bits is refused
 abbrev pub skipsTo : Option (List ℕ) → Context → Step
 skipsTo none c = on c
-skipsTo (some table) c = pick (ltb (endOf table) 0x1_0000_0000) (goes (goingTo (endOf table) c)) (refuses beyond32Bits 0)
+skipsTo (some table) c = pick (ltb (tableEndAt table) 0x1_0000_0000) (goes (goingTo (tableEndAt table) c)) (refuses beyond32Bits 0)
 
 unfoldable pub skipInlineTable : Context → Step
 skipInlineTable c = skipsTo (inlineTableAt (c .progress .address) (c .maps .«inline_tables»)) c

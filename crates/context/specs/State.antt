@@ -217,7 +217,7 @@ unfoldable pub asksCalls : ℕ → Bool → Bool → Progress → Bool
 asksCalls size inside returns p = both (not inside) (both returns (ltb (p .address + size) (p .«last_pool_address»)))
 
 -- what the code is told of that: the list of calls is read before the blocks that may put one
-abbrev pub Told : ℕ → Bool → Bool → Bool → State → World → Type 0
-Told size inside returns isCalled s l =
+abbrev pub ToldOfCalls : ℕ → Bool → Bool → Bool → State → World → Type 0
+ToldOfCalls size inside returns isCalled s l =
     asksCalls size inside returns (s .progress) ≡ true
     → isCalled ≡ isDestination (s .progress .address + size) (contextOf s l .maps .calls)

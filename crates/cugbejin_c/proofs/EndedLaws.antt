@@ -1,16 +1,11 @@
 -- What a caller can read off the number alone, since a whole walk has ended: 0 is an accepted function, any other number leaves no entries.
 -- Assumes nothing.
-use mathlib.Core.Path.{_≡_, refl, _∙_}
-use mathlib.Core.Bool.{Bool, true, false}
-use mathlib.Core.List.{List}
-use Prim.Native.Nat.{ℕ}
-use native.Mathlib.Omega.{arith}
-use lib.Dec.{leb}
+use Rattle.base.proofs.Prelude.{_∙_, refl, _≡_, true, false, Bool, List, ℕ, arith, leb}
 use Rattle.answers.specs.Answers.{numberOf}
 use Rattle.base.specs.Choice.{pick}
 use Rattle.context.specs.Lists.{Lists}
 use Rattle.context.specs.Turn.{noMaps, countsOf}
-use Rattle.stepper.specs.Calls.{After}
+use Rattle.stepper.specs.Stepper.{After}
 use Rattle.walk.specs.declared.Answer.{Answer}
 use Rattle.walk.specs.declared.Answer.the-variants.{Going, Accepted, Refused}
 use Rattle.walk.specs.declared.Counts.{Counts}

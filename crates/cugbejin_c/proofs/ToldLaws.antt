@@ -1,24 +1,22 @@
 -- What the whole walk answers, put in numbers.
 -- Assumes nothing.
-use mathlib.Core.Path.{_≡_, ap, _∙_}
-use mathlib.Core.List.{List}
-use Prim.Native.Nat.{ℕ}
+use Rattle.base.proofs.Prelude.{_∙_, _≡_, ap, List, ℕ}
 use Rattle.answers.specs.Answers.{numberOf}
 use Rattle.context.specs.Lists.{Lists}
 use Rattle.context.specs.Turn.{noMaps, countsOf}
 use Rattle.stepper.specs.declared.Answered.{Answered}
-use Rattle.stepper.specs.Calls.{After, Called}
+use Rattle.stepper.specs.Stepper.{After, Called}
 use Rattle.walk.specs.declared.Counts.{Counts}
 use Rattle.walk.specs.declared.Options.{Options}
 use Rattle.walk.specs.declared.Record.{Record}
 use Rattle.whole.specs.Whole.{run}
-use Rattle.cugbejin_c.specs.Numbers.{recordOf, numbersOf, Told}
+use Rattle.cugbejin_c.specs.Numbers.{recordOf, numbersOf, AnsweredIn}
 
 in-numbers : (x : After) (ran : Answered) (after : Lists) (found : Record) (numbers : List ℕ) (number : ℕ) → Called ran after x
     → found ≡ recordOf (ran .answer)
     → numbers ≡ numbersOf (ran .answer) found (ran .walk .counts)
     → number ≡ numberOf (ran .answer)
-    → Told number numbers after x
+    → AnsweredIn number numbers after x
 in-numbers x ran after found numbers number k f ns n =
     record { returns = n ∙ ap numberOf (k .answers); tells = ns ∙ rw (f, k .answers, k .walks); holds = k .holds }
 
@@ -30,6 +28,6 @@ pub told : (o given : Options) (n : Counts) (code starts : List ℕ) (start : �
     → found ≡ recordOf (ran .answer)
     → numbers ≡ numbersOf (ran .answer) found (ran .walk .counts)
     → number ≡ numberOf (ran .answer)
-    → Told number numbers after (run o code starts start (countsOf noMaps) l)
+    → AnsweredIn number numbers after (run o code starts start (countsOf noMaps) l)
 told o given n code starts start l ran after found numbers number same none k f ns m =
     in-numbers _ ran after found numbers number (rw (same, none) at k) f ns m

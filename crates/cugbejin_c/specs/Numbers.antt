@@ -1,4 +1,5 @@
 -- The whole walk in numbers alone: the options that a host's numbers stand for, and the twelve numbers of an answer.
+-- Assumes nothing.
 use Prim.Native.Nat.{ℕ}
 use mathlib.Core.Path.{_≡_}
 use mathlib.Core.Bool.{not}
@@ -7,7 +8,7 @@ use lib.Dec.{eqb}
 use Rattle.answers.specs.Answers.{numberOf, addressOf, registerOf}
 use Rattle.base.specs.Choice.{pick}
 use Rattle.context.specs.Lists.{Lists}
-use Rattle.stepper.specs.Calls.{After}
+use Rattle.stepper.specs.Stepper.{After}
 use Rattle.walk.specs.declared.Answer.{Answer}
 use Rattle.walk.specs.declared.Answer.the-variants.{Going, Accepted, Refused}
 use Rattle.walk.specs.declared.Counts.{Counts}
@@ -48,7 +49,7 @@ abbrev pub answerNumbers : After → List ℕ
 answerNumbers a = numbersOf (a .answer) (recordOf (a .answer)) (a .walk .counts)
 
 -- a call returned the number, and left the answer and the lists
-pub record Told (number : ℕ) (answer : List ℕ) (lists : Lists) (after : After) : Type 0 where
+pub record AnsweredIn (number : ℕ) (answer : List ℕ) (lists : Lists) (after : After) : Type 0 where
   pub returns : number ≡ numberOf (after .answer)
   pub tells : answer ≡ answerNumbers after
   pub holds : lists ≡ after .lists

@@ -10,7 +10,7 @@ ghost use mathlib.Core.Path.{_≡_};
 ghost use Rattle.context.specs.Lists.{lists};
 ghost use Rattle.context.specs.Turn.{noMaps, countsOf};
 ghost use Rattle.whole.specs.Whole.{run};
-ghost use Rattle.cugbejin_c.specs.Numbers.{knownFrom, optionsFrom, noRecord, recordOf, numbersOf, Told};
+ghost use Rattle.cugbejin_c.specs.Numbers.{knownFrom, optionsFrom, noRecord, recordOf, numbersOf, AnsweredIn};
 
 fn known_from(known: u32, end: u32) -> KnownEnd
     ensures { λ r. ⌜ r ≡ knownFrom known end ⌝ }
@@ -99,7 +99,7 @@ pub extern "C" fn cugbejin_run(
     calls: &mut [u32],
     answer: &mut [u64; 12],
 ) -> u32
-    ensures { λ r. ⌜ Told r (now (answer .exit)) (lists (now (labels .exit)) (now (pools .exit)) (now («jump_tables» .exit)) (now («inline_tables» .exit)) (now (calls .exit))) (run (optionsFrom base «module_start» «module_end» known «known_end» check) (now (code .entry)) (now (starts .entry)) start (countsOf noMaps) (lists (now (labels .entry)) (now (pools .entry)) (now («jump_tables» .entry)) (now («inline_tables» .entry)) (now (calls .entry)))) ⌝ }
+    ensures { λ r. ⌜ AnsweredIn r (now (answer .exit)) (lists (now (labels .exit)) (now (pools .exit)) (now («jump_tables» .exit)) (now («inline_tables» .exit)) (now (calls .exit))) (run (optionsFrom base «module_start» «module_end» known «known_end» check) (now (code .entry)) (now (starts .entry)) start (countsOf noMaps) (lists (now (labels .entry)) (now (pools .entry)) (now («jump_tables» .entry)) (now («inline_tables» .entry)) (now (calls .entry)))) ⌝ }
 {
     let options = options_from(base, module_start, module_end, known, known_end, check);
     let ran = whole::run(

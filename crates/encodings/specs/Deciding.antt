@@ -1,5 +1,6 @@
 -- The fields that decide a word's encoding: "is the condition 1111?", bits 27 to 20, bit 12 and bits 7 to 4. Only the contracts of the
 -- decision's inner functions speak of them; `reduced` of proofs/Reduce.antt carries them to whole words.
+-- Assumes nothing.
 use Prim.Native.Nat.{ℕ}
 use mathlib.Core.List.{List, [], _∷_, _++_}
 use Rattle.classes.specs.declared.Class.{Class}

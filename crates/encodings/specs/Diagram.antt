@@ -1,4 +1,5 @@
 -- Encoding diagrams as the manual prints them, and what it means that one fits a word.
+-- Assumes nothing.
 use Prim.Native.Nat.{ℕ, zero, suc, _/_, _%_, _^_}
 use Prim.Native.Char.{code}
 use Prim.Native.String.{String}

@@ -13,6 +13,7 @@
 --                     rule (A3), but the page itself calls just P = 0 and W = 1 UNPREDICTABLE.
 --   MRS, MSR          bits 7 to 4, which should be zero, are fixed (in MSR's register form): they are the decode bits that tell these two from the
 --                     control extension space's other instructions.
+-- Assumes nothing.
 use Prim.Native.String.{String, _++_}
 use mathlib.Core.List.{List, [], _∷_}
 use mathlib.Core.List as List

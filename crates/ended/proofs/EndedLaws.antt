@@ -1,13 +1,7 @@
 -- What a whole walk comes to: it never goes on; a refusal has a number from 1 to 14; 1 to 4 change nothing, and 5 to 14 leave no entries and zeros.
 -- Assumes nothing.
-use mathlib.Core.Path.{_≡_, refl, subst⁻¹}
-use mathlib.Core.Bool.{Bool, true, false}
-use mathlib.Core.List.{List}
-use Prim.Native.Nat.{ℕ, zero, suc, _%_, _≤_}
-use native.Mathlib.Omega.{arith}
-use borrow.Author.Tests.{eqb-false, leb-true, le-leb, lt-leb}
-use lib.Dec.{eqb, ltb, leb}
-use lib.ListN.{length}
+use Rattle.base.proofs.Prelude.{refl, _≡_, subst⁻¹, false, true, Bool, List, _≤_, ℕ, suc, zero, _%_, arith, eqb, ltb, leb, length, le-leb, lt-leb}
+use Rattle.base.proofs.Prelude.{leb-true, eqb-false}
 use Rattle.arm.specs.Ins.{decodeOf}
 use Rattle.base.specs.declared.word.Word.{Word}
 use Rattle.base.specs.declared.word.Word.the-variants.{Found as W-Found, Missing}
@@ -21,7 +15,7 @@ use Rattle.invariants.specs.Turns.{turnsFrom}
 use Rattle.base.proofs.ChoiceLaws.{both-true}
 use Rattle.invariants.proofs.KeptLaws.{none-fits, written-places}
 use Rattle.invariants.proofs.StepLaws.{same-written}
-use Rattle.stepper.specs.Calls.{After, isGoing, refused, begin, turned}
+use Rattle.stepper.specs.Stepper.{After, isGoing, refused, begin, turned}
 use Rattle.validity.specs.Validity.{isWindow, isInCode, areStarts, beginNumber}
 use Rattle.walk.specs.declared.Answer.{Answer}
 use Rattle.walk.specs.declared.Answer.the-variants.{Going, Accepted, Refused}
@@ -29,7 +23,7 @@ use Rattle.walk.specs.declared.Counts.{Counts}
 use Rattle.walk.specs.declared.Options.{Options}
 use Rattle.walk.specs.declared.Record.{Record}
 use Rattle.walk.specs.declared.Walk.{Walk}
-use Rattle.walk.specs.IntoFunction.{begun, intoFunction, endOf}
+use Rattle.walk.specs.IntoFunction.{begun, intoFunction, endAddress}
 use Rattle.ended.specs.Ended.{EndedBy, Ended}
 use Rattle.ended.proofs.RefusalLaws.{Late, is-on, has-gone, has-ended, is-refused, step-late}
 use Rattle.whole.specs.Whole.{run}
@@ -64,7 +58,7 @@ module _ (before : Context) where
   settled-over has-gone = tt
   settled-over (has-ended {a = end} {c = c}) =
       let o = c .given .options in
-      function-over (ltb (o .«module_end») (endOf (o .«known_end») end (c .progress .«last_pool_address»))) _ (endingAt end c)
+      function-over (ltb (o .«module_end») (endAddress (o .«known_end») end (c .progress .«last_pool_address»))) _ (endingAt end c)
   settled-over (is-refused n l) =
       let range = both-true (leb illegalOpcode n) _ l in
       record { least = leb-true _ _ (range .0); most = omega (arith, leb-true n listFull (range .1)); counted = refl; maps = refl }

@@ -1,11 +1,6 @@
 -- A step's refusal is one of document 01's 5 to 13, block by block.
 -- Assumes nothing.
-use mathlib.Core.Path.{_≡_, refl}
-use mathlib.Core.Bool.{Bool, true, false, not}
-use mathlib.Core.List.{List, [], _∷_}
-use mathlib.Core.Option.{Option, none, some}
-use Prim.Native.Nat.{ℕ, _+_}
-use lib.Dec.{eqb, ltb, leb}
+use Rattle.base.proofs.Prelude.{refl, _≡_, true, false, Bool, not, List, [], _∷_, some, none, Option, ℕ, _+_, eqb, ltb, leb}
 use Rattle.analysis.specs.declared.illegal_code.IllegalCodeState.{IllegalCodeState}
 use Rattle.analysis.specs.declared.illegal_code.IllegalCodeState.the-variants.{Start, ShiftedRegisterValue, Illegal}
 use Rattle.analysis.specs.declared.inline_table.InlineTableAnswer.{InlineTableAnswer}
@@ -29,7 +24,7 @@ use Rattle.base.specs.Refusals.{undefinedRegister as undefined, beyond32Bits, l
 use Rattle.base.specs.Words.{wordFrom}
 use Rattle.classes.specs.declared.Class.the-variants.{Illegal as ILLEGAL}
 use Rattle.classes.specs.Class.{is}
-use Rattle.context.specs.Blocks.{skipPool, inlineTableAt, endOf, skipsTo, skipInlineTable, raisedToTable, afterJump, jumpTable, coded, illegalCode}
+use Rattle.context.specs.Blocks.{skipPool, inlineTableAt, tableEndAt, skipsTo, skipInlineTable, raisedToTable, afterJump, jumpTable, coded, illegalCode}
 use Rattle.context.specs.Blocks.{isIn, branchOutside, markPool, forgetWritten, isLongBranchDestination, isTailCall, callTo, arm, thumb, finalReturn}
 use Rattle.context.specs.Blocks.{entryAfterBranch, pastGap, toLabel, pastPools, labelRaised, handleLabel, isOtherFunction, branches, branched, branch}
 use Rattle.context.specs.Blocks.{other, loaded, poolLoad, tabled, afterInline, inlineTable, calledAs, functionCall, checkDefined}
@@ -99,7 +94,7 @@ skipInlineTable-late c = step (inlineTableAt (c .progress .address) (c .maps .«
   where
     step : (t : Option (List ℕ)) → Late (skipsTo t c)
     step none = is-on
-    step (some t) = chosen (ltb (endOf t) 0x1_0000_0000) has-gone (is-refused beyond32Bits refl)
+    step (some t) = chosen (ltb (tableEndAt t) 0x1_0000_0000) has-gone (is-refused beyond32Bits refl)
 
 raised-late : (t : TableEnd) (c : Context) → Late (raisedToTable t c)
 raised-late (E-At end) c = is-on

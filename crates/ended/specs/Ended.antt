@@ -1,11 +1,12 @@
 -- What a whole walk comes to, by the counts and the lists that a host gave: a record, or a refusal.
+-- Assumes nothing.
 use Prim.Native.Nat.{ℕ, _≤_}
 use mathlib.Core.Path.{_≡_}
 use lib.Dec.{leb}
 use Rattle.base.specs.Choice.{pick}
 use Rattle.context.specs.Lists.{Lists, zeroed}
 use Rattle.context.specs.Turn.{noMaps, countsOf}
-use Rattle.stepper.specs.Calls.{After}
+use Rattle.stepper.specs.Stepper.{After}
 use Rattle.walk.specs.declared.Answer.{Answer}
 use Rattle.walk.specs.declared.Answer.the-variants.{Going, Accepted, Refused}
 use Rattle.walk.specs.declared.Counts.{Counts}

@@ -1,13 +1,6 @@
 -- From what the parts of the work give to what is found and listed.
 -- Assumes nothing.
-use mathlib.Core.Path.{_≡_, refl, ap}
-use mathlib.Core.Bool.{Bool, true, false}
-use mathlib.Core.List.{List, [], _++_}
-use Prim.Native.Nat.{ℕ, _+_, _*_, _/_, _≤_}
-use native.Mathlib.Omega.{arith}
-use borrow.Author.Tests.{leb-false}
-use lib.Dec.{leb}
-use lib.ListN.{length, length-append}
+use Rattle.base.proofs.Prelude.{refl, _≡_, ap, false, true, Bool, List, [], _++_, _≤_, ℕ, _+_, _*_, _/_, arith, leb, length, length-append, leb-false}
 use Rattle.base.specs.Refusals.{badRequest}
 use Rattle.context.specs.Context.{labelRow, poolRow, tableRow, callRow}
 use Rattle.context.specs.Lists.{Lists, mapsIn}
@@ -22,7 +15,7 @@ use Rattle.request.specs.declared.Parsed.the-variants.{Asked, Refused}
 use Rattle.request.specs.declared.Request.{Request}
 use Rattle.request.specs.Request.{codeOf, parsed}
 use Rattle.stepper.specs.declared.Answered.{Answered as Stepped}
-use Rattle.stepper.specs.Calls.{After, Called, refused}
+use Rattle.stepper.specs.Stepper.{After, Called, refused}
 use Rattle.text.specs.Decimal.{strip, decimal}
 use Rattle.text.specs.Hex.{hexDigit, digits, hex}
 use Rattle.base.specs.Choice.{pick}

@@ -1,11 +1,12 @@
 -- Document 01: what the listing program finds and prints for an input.
+-- Assumes nothing.
 use Prim.Native.Nat.{ℕ}
 use mathlib.Core.Path.{_≡_}
 use mathlib.Core.List.{List, []}
 use Rattle.base.specs.Refusals.{badRequest}
 use Rattle.context.specs.Lists.{Lists}
 use Rattle.context.specs.Turn.{noMaps, countsOf}
-use Rattle.stepper.specs.Calls.{After, refused}
+use Rattle.stepper.specs.Stepper.{After, refused}
 use Rattle.listing.specs.Listing.{textOf, roomFor}
 use Rattle.request.specs.declared.Parsed.{Parsed}
 use Rattle.request.specs.declared.Parsed.the-variants.{Asked, Refused}

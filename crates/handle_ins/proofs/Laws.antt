@@ -1,14 +1,7 @@
 -- What the code of handle_ins comes to: the calls that it asks, its blocks, and the call that it puts.
 -- Assumes nothing.
-use mathlib.Core.Path.{_≡_, refl, sym, ap, subst, _∙_}
-use mathlib.Core.Bool.{Bool, true, false, not}
-use mathlib.Core.List.{List, [], _∷_}
-use Prim.Native.Nat.{ℕ, _+_, _≤_, _<_, _^_}
-use native.Mathlib.Numerals.{add-one}
-use borrow.Author.Tests.{eq-eqb, ne-eqb}
-use lib.Dec.{ltb}
-use lib.ListN.{length, getD, drop, drop-of-length-le}
-use lib.Seq.{drop-cons}
+use Rattle.base.proofs.Prelude.{_∙_, sym, refl, _≡_, ap, subst, false, true, Bool, not, List, [], _∷_, _≤_, ℕ, _+_, _<_, _^_, add-one, ltb, length}
+use Rattle.base.proofs.Prelude.{getD, drop, drop-of-length-le, drop-cons, eq-eqb, ne-eqb}
 use Rattle.arm.specs.declared.Ins.{Ins}
 use Rattle.base.specs.Choice.{pick}
 use Rattle.base.specs.Refusals.{listFull}
@@ -23,7 +16,7 @@ use Rattle.context.specs.declared.Then.the-variants.{On, Goes, Ends, Refuses}
 use Rattle.context.specs.Blocks.{isDestination, inConditionalBlock, toReturn, fromReturn, handleInsInner, handleIns, passed}
 use Rattle.context.specs.Context.{Context, Given, Step, callRow, labelRow, poolRow, tableRow, goingTo}
 use Rattle.context.specs.Lists.{Lists, lists, AllHeld, givenBy}
-use Rattle.context.specs.State.{World, Holds, Settles, Comes, Does, PutsIf, Told, asksCalls, contextOf, called, isOn, read, placed, hasPlace}
+use Rattle.context.specs.State.{World, Holds, Settles, Comes, Does, PutsIf, ToldOfCalls, asksCalls, contextOf, called, isOn, read, placed, hasPlace}
 use Rattle.context.specs.State.{labelsIn, poolsIn, jumpTablesIn, inlineTablesIn, optionsIn, codeIn, startsIn, registersIn, forgottenBy, loadedBy, loadedIn, passes, passesAs, headed, counted, countCalls}
 use Rattle.context.proofs.Laws.{settled as comes, stop, go-on}
 use Rattle.predicates.specs.Predicates.{isReturn}
@@ -35,7 +28,7 @@ use Rattle.rows.specs.Rows.{inserted}
 use Rattle.rows.proofs.RowLaws.{inserted-length}
 use Rattle.walk.specs.declared.Counts.{Counts}
 use Rattle.walk.specs.declared.Options.{Options}
-use Rattle.handle_ins.specs.Handles.{contextIn, worldOf, allIn, callsOf, Inner, hasRoom, callsAt, enteredAs, Stores, Handles}
+use Rattle.handle_ins.specs.Handles.{contextIn, worldOf, allIn, callsOf, Inner, hasRoom, callsAt, withEntry, Stores, Handles}
 
 -- ---- whether a call goes to an address, from the i-th on
 
@@ -69,7 +62,7 @@ module _ (count : ℕ) (before : List ℕ) (r : Stepped) where
   stores-none e h same is = rw (is, same, e) (record { held = h; counts = refl; says = λ q g h l. refl; full = λ q. cc })
 
   pub stores-call : {w d mode : ℕ} {after : List ℕ} {e : Entered} {p : Stepped} → r .state .call ≡ Call w d mode
-      → Entering callRow count before (r .state .progress .address ∷ w ∷ d ∷ mode ∷ []) e after → p ≡ enteredAs e r → Stores count before after r p
+      → Entering callRow count before (r .state .progress .address ∷ w ∷ d ∷ mode ∷ []) e after → p ≡ withEntry e r → Stores count before after r p
   stores-call {w} {d} {mode} {after} {e} call i is =
       rw (is, call)
       (record {
@@ -143,7 +136,7 @@ module _ (o : Options) (code starts : List ℕ) (i : Ins) (word size : ℕ) (s :
       → inside ≡ ltb (r .state .progress .address) (r .state .progress .«last_conditional_destination»)
       → returns ≡ isReturn (r .state .progress .address) i (r .state .progress .previous)
       → (asksCalls size inside returns (r .state .progress) ≡ true → isCalled ≡ isDestination (r .state .progress .address + size) (l .calls))
-      → PutsIf (Told size inside returns isCalled (r .state))
+      → PutsIf (ToldOfCalls size inside returns isCalled (r .state))
       (λ l. codeIn code (startsIn starts (optionsIn o (labelsIn (before .labels) (poolsIn pools (inlineTablesIn (before .«inline_tables») l))))))
       (λ l. loadedIn (u .load) (codeIn code (startsIn starts (optionsIn o (labelsIn labels' (poolsIn pools' (inlineTablesIn inlines' l)))))))
       (fromReturn i word size inside returns)

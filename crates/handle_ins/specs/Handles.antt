@@ -83,8 +83,8 @@ abbrev pub callsAt : List ℕ → Lists → Lists
 callsAt calls l = lists (l .labels) (l .pools) (l .«jump_tables») (l .«inline_tables») calls
 
 -- the code's `entered`
-abbrev pub enteredAs : Entered → Stepped → Stepped
-enteredAs e r = record {
+abbrev pub withEntry : Entered → Stepped → Stepped
+withEntry e r = record {
   then = pick (e .full) (Refuses listFull 0) (r .then);
   state = putting Nothing (counted (countCalls (e .count) (r .state .counts)) (r .state));
 }

@@ -28,7 +28,7 @@ ghost use Rattle.context.specs.Blocks.{isDestination, handleIns};
 ghost use Rattle.context.specs.Lists.{lists, AllHeld, givenBy};
 ghost use Rattle.context.specs.State.{asksCalls};
 ghost use Rattle.rows.specs.Map.{Held, mapIn};
-ghost use Rattle.handle_ins.specs.Handles.{contextIn, NoCall, Inner, enteredAs, Stores, Handles};
+ghost use Rattle.handle_ins.specs.Handles.{contextIn, NoCall, Inner, withEntry, Stores, Handles};
 
 // function_calls.values().any(..): one goes to the address.
 fn is_destination(calls: &[u32], count: usize, address: u32) -> bool
@@ -122,8 +122,8 @@ fn handle_ins_inner(
 }
 
 // The step once its call was entered: without a place it is a refusal.
-pub fn entered(r: Stepped, e: Entered) -> Stepped
-    ensures { λ p. ⌜ p ≡ enteredAs e r ⌝ }
+pub fn with_entry(r: Stepped, e: Entered) -> Stepped
+    ensures { λ p. ⌜ p ≡ withEntry e r ⌝ }
 {
     let then = r.then;
     let state = assign::with_call(assign::count_calls(r.state, e.count), Put::Nothing);
@@ -153,7 +153,7 @@ fn put_call(r: Stepped, count: usize, calls: &mut [u32]) -> Stepped
         } => {
             let p = s.progress;
             let e = enter(calls, CALL_ROW, count, [p.address, word, destination, mode]);
-            entered(r, e)
+            with_entry(r, e)
         }
     }
 }

@@ -1,13 +1,7 @@
 -- One block of a step after another, each lent only the lists that it touches.
 -- Assumes nothing.
-use mathlib.Core.Path.{_≡_, refl, sym, ap, _∙_, subst}
-use mathlib.Core.Bool.{Bool, true, false, not}
-use mathlib.Core.List.{List, [], _∷_, map}
-use Prim.Native.Nat.{ℕ, zero, suc, _+_, _-_, _*_, _≤_, _<_}
-use native.Mathlib.Omega.{arith}
-use borrow.Author.Tests.{lt-ltb, eq-eqb, not-true, not-false}
-use lib.Dec.{ltb}
-use lib.ListN.{length, replicate, length-replicate}
+use Rattle.base.proofs.Prelude.{_∙_, sym, refl, _≡_, ap, subst, false, true, Bool, not, List, [], _∷_, map, _≤_, ℕ, _+_, _<_, _-_, suc, _*_, zero}
+use Rattle.base.proofs.Prelude.{arith, ltb, length, replicate, length-replicate, eq-eqb, lt-ltb, not-false, not-true}
 use Rattle.base.specs.Choice.{pick}
 use Rattle.arm.specs.declared.Ins.{Ins}
 use Rattle.registers.specs.Registers.{forgotten}
@@ -27,7 +21,7 @@ use Rattle.walk.specs.declared.Options.{Options}
 use Rattle.context.specs.declared.Load.{Load}
 use Rattle.context.specs.declared.Load.the-variants.{Nothing as NoLoad}
 use Rattle.registers.specs.declared.Registers.{Registers}
-use Rattle.context.specs.State.{codeIn, startsIn, optionsIn, labelsIn, poolsIn, jumpTablesIn, inlineTablesIn, registersIn, loadedIn, forgottenBy, World, Holds, Settles, Comes, Does, Puts, PutsIf, Told, same, isOn, hasPlace, contextOf}
+use Rattle.context.specs.State.{codeIn, startsIn, optionsIn, labelsIn, poolsIn, jumpTablesIn, inlineTablesIn, registersIn, loadedIn, forgottenBy, World, Holds, Settles, Comes, Does, Puts, PutsIf, ToldOfCalls, same, isOn, hasPlace, contextOf}
 use Rattle.context.proofs.Laws.{go-settled, go-on, settled, stop, stop-settled, registers-held}
 
 -- ---- one block after another
@@ -237,13 +231,13 @@ lent e m p n l = codeIn (e .code) (startsIn (e .starts) (optionsIn (e .options) 
 
 abbrev pub Comes-from : Entry → (World → World) → (Context → Step) → Stepped → Type 0
 Comes-from e after f r =
-    PutsIf (Told (e .size) (e .inside) (e .returns) (e .called) (e .state)) (lent e (e .labels) (e .pools) (e .inlines)) after f (e .state) r
+    PutsIf (ToldOfCalls (e .size) (e .inside) (e .returns) (e .called) (e .state)) (lent e (e .labels) (e .pools) (e .inlines)) after f (e .state) r
 
 pub record From (e : Entry) (f : Context → Step) (m p n : List ℕ) (load : Load) (r : Stepped) : Type 0 where
   pub does : Comes-from e (λ l. loadedIn load (lent e m p n l)) f r
 
 pub from-first : (e : Entry) (f : Context → Step) {r : Stepped}
-    → PutsIf (Told (e .size) (e .inside) (e .returns) (e .called) (e .state)) (λ l. codeIn (e .code) (optionsIn (e .options) l))
+    → PutsIf (ToldOfCalls (e .size) (e .inside) (e .returns) (e .called) (e .state)) (λ l. codeIn (e .code) (optionsIn (e .options) l))
     (λ l. codeIn (e .code) (optionsIn (e .options) l)) f (e .state) r
     → From e f (e .labels) (e .pools) (e .inlines) NoLoad r
 from-first e f d = record { does = λ l told h. d (lent e (e .labels) (e .pools) (e .inlines) l) told h }
@@ -284,7 +278,7 @@ module _ {e : Entry} {r : Stepped} {f : Context → Step} {m p n : List ℕ} {lo
       let j = some tableRow (s .counts .«jump_tables») in
       let k = callsFor (e .called) (s .progress .address + e .size) in
       let l = standing k (e .labels) (e .pools) j (e .inlines) in
-      let told : Told (e .size) (e .inside) (e .returns) (e .called) s l = λ _. rw none (told-for (e .called) (s .progress .address + e .size)) in
+      let told : ToldOfCalls (e .size) (e .inside) (e .returns) (e .called) s l = λ _. rw none (told-for (e .called) (s .progress .address + e .size)) in
       let many = stands k (e .labels) (e .pools) j (e .inlines) a b (some-held tableRow (s .counts .«jump_tables») (omega arith)) c in
       let end = t .does l told (given-held (e .options) (e .code) (e .starts) many) in
       (end .holds .labels, end .holds .pools, end .holds .«inline_tables», end .stays)

@@ -30,7 +30,7 @@ ghost use lib.ListN.{length};
 ghost use Rattle.rows.specs.Map.{Held};
 ghost use Rattle.context.specs.Context.{labelRow, poolRow, tableRow};
 ghost use Rattle.context.specs.Blocks.{toReturn, fromReturn};
-ghost use Rattle.context.specs.State.{Does, PutsIf, Told, registersIn, forgottenBy, loadedIn, labelsIn, poolsIn, jumpTablesIn, inlineTablesIn, codeIn, optionsIn, startsIn};
+ghost use Rattle.context.specs.State.{Does, PutsIf, ToldOfCalls, registersIn, forgottenBy, loadedIn, labelsIn, poolsIn, jumpTablesIn, inlineTablesIn, codeIn, optionsIn, startsIn};
 
 // Up to in_conditional_block and is_return. What the instruction writes is forgotten by the caller, where this went on.
 pub fn to_return(
@@ -86,7 +86,7 @@ pub fn from_return(
     inline_tables: &mut [u32],
 ) -> Loaded
     requires { ⌜ Held 1 (length (now starts)) (now starts) × Held labelRow (s .counts .labels) (now labels) × Held poolRow (s .counts .pools) (now pools) × Held tableRow (s .counts .«inline_tables») (now «inline_tables») × (s .progress .address + size < 2 ^ 32) × (s .call ≡ Put.Nothing) ⌝ }
-    ensures { λ r. ⌜ PutsIf (Told size inside returns «is_called_next» s) (λ l. codeIn (now (code .entry)) (startsIn (now (starts .entry)) (optionsIn o (labelsIn (now (labels .entry)) (poolsIn (now (pools .entry)) (inlineTablesIn (now («inline_tables» .entry)) l)))))) (λ l. loadedIn (r .load) (codeIn (now (code .entry)) (startsIn (now (starts .entry)) (optionsIn o (labelsIn (now (labels .exit)) (poolsIn (now (pools .exit)) (inlineTablesIn (now («inline_tables» .exit)) l))))))) (fromReturn ins word size inside returns) s (r .stepped) ⌝ }
+    ensures { λ r. ⌜ PutsIf (ToldOfCalls size inside returns «is_called_next» s) (λ l. codeIn (now (code .entry)) (startsIn (now (starts .entry)) (optionsIn o (labelsIn (now (labels .entry)) (poolsIn (now (pools .entry)) (inlineTablesIn (now («inline_tables» .entry)) l)))))) (λ l. loadedIn (r .load) (codeIn (now (code .entry)) (startsIn (now (starts .entry)) (optionsIn o (labelsIn (now (labels .exit)) (poolsIn (now (pools .exit)) (inlineTablesIn (now («inline_tables» .exit)) l))))))) (fromReturn ins word size inside returns) s (r .stepped) ⌝ }
 {
     let r1 = final_return(o, s, word, size, ins, inside, returns, is_called_next, code);
     if !is_on(r1) {

@@ -1,13 +1,7 @@
 -- What begin and step come to where they are told of the calls, for all records that tell so.
 -- Assumes nothing.
-use mathlib.Core.Path.{_≡_, refl, sym, ap, _∙_}
-use mathlib.Core.Bool.{Bool, true, false}
-use mathlib.Core.List.{List, []}
-use Prim.Native.Nat.{ℕ, _+_, _%_, _≤_}
-use native.Mathlib.Omega.{arith}
-use borrow.Author.Tests.{eq-eqb, ne-eqb, eqb-true, eqb-false}
-use lib.Dec.{eqb, leb}
-use lib.ListN.{length}
+use Rattle.base.proofs.Prelude.{_∙_, sym, refl, _≡_, ap, false, true, Bool, List, [], _≤_, ℕ, _+_, _%_, arith, eqb, leb, length, eq-eqb, ne-eqb}
+use Rattle.base.proofs.Prelude.{eqb-true, eqb-false}
 use Rattle.base.specs.Choice.{pick, both}
 use Rattle.base.specs.Refusals.{badLists}
 use Rattle.calls.specs.declared.Call.{Call}
@@ -25,7 +19,7 @@ use Rattle.turn_told.specs.declared.Looked.{Looked}
 use Rattle.turn_told.specs.Told.{others, withCalls, OthersHeld, turnIn, TellsAt, Edits}
 use Rattle.turn_told.proofs.Laws.{unedited}
 use Rattle.stepper.specs.declared.Answered.{Answered}
-use Rattle.stepper.specs.Calls.{After, Called, isGoing, refused, begin, step}
+use Rattle.stepper.specs.Stepper.{After, Called, isGoing, refused, begin, step}
 use Rattle.stepper.proofs.Laws.{called-turned, turn-may as may-turn}
 use Rattle.turn.specs.Turning.{Turns}
 use Rattle.validity.specs.Validity.{high, isWindow, isInCode, areStarts, arePools, stepNumber, beginNumber, areLists, areInOrder}

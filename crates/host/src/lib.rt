@@ -10,7 +10,7 @@ use stepper::Answered;
 use walk::Counts;
 use walk::Options;
 use walk::Walk;
-ghost use Rattle.stepper.specs.Calls.{Called, begin, step};
+ghost use Rattle.stepper.specs.Stepper.{Called, begin, step};
 ghost use Rattle.host.specs.Told.{listsWith};
 
 pub fn begin(

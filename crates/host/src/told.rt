@@ -18,7 +18,7 @@ ghost use lib.ListN.{length};
 ghost use Rattle.base.specs.Choice.{pick};
 ghost use Rattle.calls.specs.Records.{clearing};
 ghost use Rattle.turn_told.specs.Told.{others, TellsAt, Edits};
-ghost use Rattle.stepper.specs.Calls.{Called, isGoing, begin, step};
+ghost use Rattle.stepper.specs.Stepper.{Called, isGoing, begin, step};
 ghost use Rattle.host.specs.Told.{withoutCalls, numberTold, leaving};
 
 // What a call answers, and the change of the records that is left to do.

@@ -1,16 +1,7 @@
 -- One block after another: a property that every assignment of a step keeps holds after each block, and so after the step.
 -- Assumes nothing.
-use mathlib.Core.Path.{_≡_, refl, ap}
-use mathlib.Core.Bool.{Bool, true, false, not}
-use mathlib.Core.List.{List, [], _∷_}
-use mathlib.Core.Logic.{_⊎_, inl, inr}
-use mathlib.Core.Option.{Option, none, some}
-use Prim.Native.Nat.{ℕ, suc, _+_, _≤_, _<_}
-use native.Mathlib.Nat.{le-of-suc-le-suc}
-use native.Mathlib.Omega.{arith}
-use borrow.Author.Tests.{ltb-true, ltb-false}
-use lib.Dec.{ltb, eqb}
-use lib.ListN.{length, getD}
+use Rattle.base.proofs.Prelude.{refl, _≡_, ap, false, true, Bool, not, List, [], _∷_, inr, inl, _⊎_, some, none, Option, _≤_, ℕ, _+_, _<_, suc, arith}
+use Rattle.base.proofs.Prelude.{le-of-suc-le-suc, eqb, ltb, length, getD, ltb-true, ltb-false}
 use Rattle.analysis.specs.declared.illegal_code.IllegalCodeState.{IllegalCodeState}
 use Rattle.analysis.specs.declared.illegal_code.IllegalCodeState.the-variants.{Start, ShiftedRegisterValue, Illegal}
 use Rattle.analysis.specs.declared.inline_table.InlineTableAnswer.{InlineTableAnswer}
@@ -30,7 +21,7 @@ use Rattle.base.specs.declared.word.Word.{Word}
 use Rattle.base.specs.declared.word.Word.the-variants.{Found as W-Found, Missing}
 use Rattle.base.specs.Choice.{pick, both, either}
 use Rattle.base.specs.Words.{wordFrom}
-use Rattle.context.specs.Blocks.{other, skipPool, skipInlineTable, inlineTableAt, endOf, jumpTable, afterJump, raisedToTable, illegalCode}
+use Rattle.context.specs.Blocks.{other, skipPool, skipInlineTable, inlineTableAt, tableEndAt, jumpTable, afterJump, raisedToTable, illegalCode}
 use Rattle.context.specs.Blocks.{afterCode, branchOutside, inConditionalBlock, marked, markPool, forgetWritten, finalReturn, isTailCall}
 use Rattle.context.specs.Blocks.{isLongBranchDestination}
 use Rattle.context.specs.Blocks.{callTo, arm, thumb, entryAfterBranch, pastGap, toLabel, pastPools, raisesLabel, labelRaised, handleLabel}
@@ -79,7 +70,7 @@ module _ {P G : Context → Type 0} {E : ℕ → Context → Type 0} where
 -- where a step that skips goes on: past a pool, or past an inline table
 pub data Skips (c : Context) : ℕ → Type 0 where
   pool : stands-in (c .maps .pools) (c .progress .address) ≡ true → Skips c (c .progress .address + 4)
-  table : (t : List ℕ) → inlineTableAt (c .progress .address) (c .maps .«inline_tables») ≡ some t → Skips c (endOf t)
+  table : (t : List ℕ) → inlineTableAt (c .progress .address) (c .maps .«inline_tables») ≡ some t → Skips c (tableEndAt t)
 
 -- an insertion that fits keeps P
 abbrev pub Enters : (Context → Type 0) → ℕ → (Counts → ℕ) → (Maps → List (List ℕ)) → (List (List ℕ) → Maps → Maps) → Type 0
@@ -163,7 +154,7 @@ module _ (i : Ins) (size : ℕ) (P G : Context → Type 0) (E : ℕ → Context 
           → Meets P G E (pick b (goes (goingTo (c .progress .address + 4) c)) (on c) ▸ skipInlineTable)
       step true e t f = has-gone (g _ (pool e))
       step false e none f = rw f (is-on p)
-      step false e (some t) f = rw f (chosen (ltb (endOf t) 0x1_0000_0000) (λ _. has-gone (g _ (table t f))) (λ _. is-refused))
+      step false e (some t) f = rw f (chosen (ltb (tableEndAt t) 0x1_0000_0000) (λ _. has-gone (g _ (table t f))) (λ _. is-refused))
 
   raised-kept : (t : TableEnd) (c : Context) → P c → Meet (raisedToTable t c)
   raised-kept (E-At end) c p = is-on (k .tables end _ (k .raises end c p))

@@ -1,13 +1,6 @@
 -- The refusals 1 to 4: what a begin or a step that passed them has shown.
 -- Assumes nothing.
-use mathlib.Core.Path.{_≡_, refl}
-use mathlib.Core.Bool.{Bool, true, false}
-use mathlib.Core.List.{List}
-use Prim.Native.Nat.{ℕ, _%_, _<_, _≤_}
-use native.Mathlib.Omega.{arith}
-use borrow.Author.Tests.{leb-true, le-leb, eqb-true, eq-eqb}
-use lib.Dec.{eqb}
-use lib.ListN.{length}
+use Rattle.base.proofs.Prelude.{refl, _≡_, true, false, Bool, List, _≤_, ℕ, _<_, _%_, arith, eqb, length, eq-eqb, le-leb, leb-true, eqb-true}
 use Rattle.base.proofs.ChoiceLaws.{both-true}
 use Rattle.base.specs.Choice.{pick, both}
 use Rattle.context.specs.Context.{labelRow, poolRow, tableRow}
@@ -15,7 +8,7 @@ use Rattle.context.specs.Lists.{Lists, AllHeld, mapsIn}
 use Rattle.context.specs.Turn.{keyOr0}
 use Rattle.rows.specs.Map.{Held, inOrder, lastKey}
 use Rattle.rows.proofs.MapLaws.{held-in-order, in-order-held}
-use Rattle.stepper.specs.Calls.{numberAt}
+use Rattle.stepper.specs.Stepper.{numberAt}
 use Rattle.validity.specs.Validity.{isWindow, isInCode, areStarts, areInOrder, areWhole, areHeld, arePools, areLists, beginNumber, stepNumber}
 use Rattle.walk.specs.declared.Counts.{Counts}
 use Rattle.walk.specs.declared.Options.{Options}

@@ -1,11 +1,6 @@
 -- A pool load is neither return nor entry nor branch, and an entry is no return: their classes differ.
 -- Assumes nothing.
-use mathlib.Core.Path.{_≡_, refl}
-use mathlib.Core.Bool.{Bool, true, false, not}
-use Prim.Native.Nat.{ℕ}
-use native.Mathlib.Omega.{arith}
-use lib.Dec.{eqb}
-use borrow.Author.Tests.{eqb-true}
+use Rattle.base.proofs.Prelude.{refl, _≡_, true, false, Bool, not, ℕ, arith, eqb, eqb-true}
 use Rattle.base.proofs.ChoiceLaws.{both-first, both-second}
 use Rattle.analysis.specs.Pattern.{al, pc}
 use Rattle.base.specs.Choice.{pick, both}

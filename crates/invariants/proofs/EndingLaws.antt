@@ -1,15 +1,10 @@
 -- Each turn that goes on moves the walk on in the code, so a walk has a result after one turn more than the code has bytes.
 -- Assumes nothing.
-use mathlib.Core.Path.{_≡_, refl, ap}
-use mathlib.Core.Bool.{Bool, true, false}
-use Prim.Native.Nat.{ℕ, zero, suc, _+_, _≤_}
-use native.Mathlib.Nat.{not-suc-le-zero, le-of-suc-le-suc}
-use native.Mathlib.Omega.{arith}
-use lib.ListN.{length}
+use Rattle.base.proofs.Prelude.{refl, _≡_, ap, true, false, Bool, _≤_, ℕ, _+_, suc, zero, arith, le-of-suc-le-suc, not-suc-le-zero, length}
 use Rattle.base.specs.Choice.{pick}
 use Rattle.context.specs.Context.{Given}
 use Rattle.context.specs.Turn.{Turned, contextAt, turn}
-use Rattle.stepper.specs.Calls.{isGoing}
+use Rattle.stepper.specs.Stepper.{isGoing}
 use Rattle.invariants.specs.Turns.{turnsFrom}
 use Rattle.invariants.proofs.KeptLaws.{sound-fits, sound-kept}
 use Rattle.invariants.proofs.SoundLaws.{AllFit, Sound}

@@ -1,14 +1,6 @@
 -- What the checks ask for holds again after a turn that goes on; and after any turn the lists hold its maps.
 -- Assumes nothing.
-use mathlib.Core.Path.{_≡_, refl, ap}
-use mathlib.Core.Bool.{true}
-use mathlib.Core.List.{List, []}
-use Prim.Native.Nat.{ℕ, _*_, _<_}
-use native.Mathlib.Nat.{zero-mul}
-use native.Mathlib.Omega.{arith}
-use borrow.Author.Tests.{leb-true}
-use lib.Dec.{leb}
-use lib.ListN.{length}
+use Rattle.base.proofs.Prelude.{refl, _≡_, ap, true, List, [], ℕ, _<_, _*_, arith, zero-mul, leb, length, leb-true}
 use Rattle.arm.specs.Ins.{decodeOf}
 use Rattle.base.specs.declared.word.Word.{Word}
 use Rattle.base.specs.declared.word.Word.the-variants.{Found as W-Found, Missing}
@@ -20,7 +12,7 @@ use Rattle.rows.specs.Order.{ascending}
 use Rattle.rows.specs.Map.{Held, encode, mapIn, lastKey}
 use Rattle.rows.proofs.MapLaws.{held-map, map-length, encode-map, encode-held, encode-length}
 use Rattle.base.proofs.ChoiceLaws.{both-first}
-use Rattle.stepper.specs.Calls.{isGoing, numberAt, turned}
+use Rattle.stepper.specs.Stepper.{isGoing, numberAt, turned}
 use Rattle.validity.specs.Validity.{isInCode, areWhole, areHeld}
 use Rattle.walk.specs.declared.Answer.{Answer}
 use Rattle.walk.specs.declared.Answer.the-variants.{Going, Accepted, Refused}

@@ -1,20 +1,12 @@
 -- Where a step goes on, and where it ends: a step that goes on has moved on; one that ends has come to its own instruction's end, or to its
 -- beginning where that is the entry of another function.
 -- Assumes nothing.
-use mathlib.Core.Path.{_≡_, refl, ap}
-use mathlib.Core.Bool.{Bool, true, false}
-use mathlib.Core.List.{List, [], _∷_}
-use mathlib.Core.Logic.{_⊎_, inl, inr}
-use mathlib.Core.Option.{none, some}
-use Prim.Native.Nat.{ℕ, suc, _+_, _≤_, _<_, suc-le-suc}
-use native.Mathlib.Omega.{arith}
-use borrow.Author.Tests.{ltb-true, eqb-true, eq-eqb, lt-ltb}
-use lib.Dec.{ltb, leb, eqb}
-use lib.ListN.{length}
+use Rattle.base.proofs.Prelude.{refl, _≡_, ap, false, true, Bool, List, [], _∷_, inr, inl, _⊎_, some, none, _≤_, ℕ, _+_, _<_, suc, suc-le-suc, arith}
+use Rattle.base.proofs.Prelude.{eqb, ltb, leb, length, eq-eqb, lt-ltb, eqb-true, ltb-true}
 use Rattle.arm.specs.declared.Ins.{Ins}
 use Rattle.arm.specs.Ins.{decodeOf}
 use Rattle.base.specs.Choice.{pick}
-use Rattle.context.specs.Blocks.{inlineTableAt, isWithin, endOf, pastGap, toLabel, pastPools, raisesLabel, labelRaised, handleLabel, handleIns}
+use Rattle.context.specs.Blocks.{inlineTableAt, isWithin, tableEndAt, pastGap, toLabel, pastPools, raisesLabel, labelRaised, handleLabel, handleIns}
 use Rattle.context.specs.Turn.{armSize}
 use Rattle.context.specs.Context.{Context, Step, on, goes, ends, withProgress, raising, enterLabel, labelRow}
 use Rattle.predicates.specs.Predicates.{isBranch, isEntryInstruction}
@@ -33,13 +25,13 @@ use Rattle.invariants.proofs.BlockLaws.{chosen}
 use Rattle.invariants.proofs.BlockLaws.{stayed, gone, ended, beforeBranch, before-kept}
 
 -- a table holds what lies before its end
-pub table-past : (a : ℕ) (ts : List (List ℕ)) (t : List ℕ) → inlineTableAt a ts ≡ some t → a < endOf t
+pub table-past : (a : ℕ) (ts : List (List ℕ)) (t : List ℕ) → inlineTableAt a ts ≡ some t → a < tableEndAt t
 unfolding inlineTableAt
 table-past a [] t e = let z : _≡_ {A = ℕ} 0 1 = cc in absurd (omega arith)
 table-past a (u ∷ ts) t e = step (isWithin a u) refl (table-past a ts t) e
   where
-    step : (b : Bool) → isWithin a u ≡ b → (inlineTableAt a ts ≡ some t → a < endOf t) → pick b (some u) (inlineTableAt a ts) ≡ some t → a < endOf t
-    step true f next e = let same : u ≡ t = cc in rw same at (ltb-true a (endOf u) (both-second (leb (keyOf u) a) _ f))
+    step : (b : Bool) → isWithin a u ≡ b → (inlineTableAt a ts ≡ some t → a < tableEndAt t) → pick b (some u) (inlineTableAt a ts) ≡ some t → a < tableEndAt t
+    step true f next e = let same : u ≡ t = cc in rw same at (ltb-true a (tableEndAt u) (both-second (leb (keyOf u) a) _ f))
     step false f next e = next e
 
 -- a skip goes past the address

@@ -1,16 +1,10 @@
 -- The pools after an insertion: they lie wholly in the code, the last is the greatest, and each register's pool is among them.
 -- Assumes nothing.
-use mathlib.Core.Path.{_≡_, refl, ap, _∙_}
-use mathlib.Core.Bool.{Bool, true, false}
-use mathlib.Core.List.{List, [], _∷_, map}
-use Prim.Native.Nat.{ℕ, zero, suc, _/_, _<_, _≤_, max}
-use native.Mathlib.Omega.{arith}
-use borrow.Author.Tests.{eqb-true, ltb-true, ltb-false}
-use lib.Dec.{eqb, ltb}
-use lib.ListN.{length, set}
+use Rattle.base.proofs.Prelude.{_∙_, refl, _≡_, ap, false, true, Bool, List, [], _∷_, map, _≤_, ℕ, _<_, suc, zero, _/_, max, arith, eqb, ltb, length}
+use Rattle.base.proofs.Prelude.{set, eqb-true, ltb-true, ltb-false}
 use Rattle.base.specs.Choice.{pick, both, either}
 use Rattle.context.specs.Turn.{keyOr0}
-use Rattle.registers.specs.Registers.{isOdd, cleared}
+use Rattle.registers.specs.Registers.{isOdd, columnForgotten}
 use Rattle.rows.specs.Order.{rising, ascending}
 use Rattle.rows.specs.Rows.{stands, inserted}
 use Rattle.rows.specs.Map.{keyOf, stands-in, lastKey, Wide}
@@ -148,8 +142,8 @@ held-more m n more (s ∷ ss) e =
 
 module _ (m : List (List ℕ)) where
   -- a register that is written has none
-  pub held-cleared : (set : ℕ) (ss : List ℕ) → areHeld ss m ≡ true → areHeld (cleared set ss) m ≡ true
-  unfolding areHeld cleared
+  pub held-cleared : (set : ℕ) (ss : List ℕ) → areHeld ss m ≡ true → areHeld (columnForgotten set ss) m ≡ true
+  unfolding areHeld columnForgotten
   held-cleared set [] e = refl
   held-cleared set (s ∷ ss) e =
       both-are (isHeld m (pick (isOdd set) 0 s)) _ (step (isOdd set)) (held-cleared (set / 2) ss (both-second (isHeld m s) _ e))

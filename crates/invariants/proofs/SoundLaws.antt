@@ -1,14 +1,8 @@
 -- What a step keeps: each map is a map that fits its list, each pool lies in the code, the last pool is the last of them, and each register's
 -- pool is one of them. What a walk is given, and its start, never change.
 -- Assumes nothing.
-use mathlib.Core.Path.{_≡_, refl, sym, _∙_}
-use mathlib.Core.Bool.{Bool, true, false}
-use mathlib.Core.List.{List, [], _∷_, map}
-use Prim.Native.Nat.{ℕ, _+_, _*_, _≤_, max}
-use native.Mathlib.Omega.{arith}
-use borrow.Author.Tests.{leb-true, le-leb, eq-eqb}
-use lib.Dec.{eqb}
-use lib.ListN.{length, getD}
+use Rattle.base.proofs.Prelude.{_∙_, sym, refl, _≡_, false, true, Bool, List, [], _∷_, map, _≤_, ℕ, _+_, _*_, max, arith, eqb, length, getD, eq-eqb}
+use Rattle.base.proofs.Prelude.{le-leb, leb-true}
 use Rattle.arm.specs.declared.Ins.{Ins}
 use Rattle.base.specs.declared.word.Word.the-variants.{Found as W-Found}
 use Rattle.base.specs.Choice.{pick}

@@ -1,14 +1,8 @@
 -- Steps from a walk that passes the checks are turns, since what they ask for holds again; and of any steps, no more find a word than the
 -- code has bytes.
 -- Assumes nothing.
-use mathlib.Core.Path.{_≡_, refl, sym, ap, subst, _∙_}
-use mathlib.Core.Bool.{Bool, true, false}
-use mathlib.Core.List.{List}
-use Prim.Native.Nat.{ℕ, zero, suc, _+_, _-_, _≤_, _<_, max}
-use native.Mathlib.Omega.{arith}
-use borrow.Author.Tests.{eq-eqb}
-use lib.Dec.{eqb}
-use lib.ListN.{length}
+use Rattle.base.proofs.Prelude.{_∙_, sym, refl, _≡_, ap, subst, false, true, Bool, List, _≤_, ℕ, _+_, _<_, _-_, suc, zero, max, arith, eqb, length}
+use Rattle.base.proofs.Prelude.{eq-eqb}
 use Rattle.base.specs.declared.word.Word.{Word}
 use Rattle.base.specs.declared.word.Word.the-variants.{Found as W-Found, Missing}
 use Rattle.base.specs.Choice.{pick, both}
@@ -17,7 +11,7 @@ use Rattle.context.specs.Context.{Maps, Given}
 use Rattle.context.specs.Lists.{Lists, AllHeld, mapsIn, written, placesOf, givenBy}
 use Rattle.context.specs.Turn.{Turned, turn}
 use Rattle.rows.specs.Map.{encode, mapIn}
-use Rattle.stepper.specs.Calls.{After, isGoing, numberAt, step, turned, unchanged, refused}
+use Rattle.stepper.specs.Stepper.{After, isGoing, numberAt, step, turned, unchanged, refused}
 use Rattle.walk.specs.declared.Counts.{Counts}
 use Rattle.walk.specs.declared.Options.{Options}
 use Rattle.walk.specs.declared.Walk.{Walk}

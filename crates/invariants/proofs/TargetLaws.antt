@@ -1,12 +1,8 @@
 -- Where a decoded branch goes: one that goes ahead goes at least to the next instruction.
 -- Assumes nothing.
-use mathlib.Core.Path.{_≡_, refl, sym, ap, subst, _∙_}
-use mathlib.Core.Bool.{Bool, true, false}
-use mathlib.Core.List.{List, [], _∷_, List·Memᴰ, List·Memᴰ·head, List·Memᴰ·tail}
-use Prim.Native.Nat.{ℕ, _+_, _*_, _/_, _%_, _^_, _≤_, _<_}
-use native.Mathlib.Omega.{arith}
-use borrow.Author.Tests.{eqb-true, eq-eqb}
-use lib.Dec.{T, eqb}
+use Rattle.base.proofs.Prelude.{_∙_, sym, refl, _≡_, ap, subst, false, true, Bool, List, [], _∷_, _≤_, ℕ, _+_, _<_, _*_, _^_, _/_, _%_, arith, eqb, T}
+use Rattle.base.proofs.Prelude.{eq-eqb, eqb-true}
+use mathlib.Core.List.{List·Memᴰ, List·Memᴰ·head, List·Memᴰ·tail}
 use lib.Signed.{mag}
 use mir.Syntax.{w32}
 use mir.Val.{SFits, ofZ}

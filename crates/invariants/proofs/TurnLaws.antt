@@ -1,10 +1,6 @@
 -- A turn: one that goes on has found a word, and its step went on; what it leaves is counted.
 -- Assumes nothing.
-use mathlib.Core.Path.{_≡_, refl, ap, _∙_}
-use mathlib.Core.Bool.{Bool, true, false}
-use Prim.Native.Nat.{ℕ, _<_}
-use native.Mathlib.Omega.{arith}
-use lib.Dec.{ltb}
+use Rattle.base.proofs.Prelude.{_∙_, refl, _≡_, ap, true, false, Bool, ℕ, _<_, arith, ltb}
 use Rattle.arm.specs.Ins.{decodeOf}
 use Rattle.base.specs.declared.word.Word.{Word}
 use Rattle.base.specs.declared.word.Word.the-variants.{Found as W-Found, Missing}
@@ -13,11 +9,11 @@ use Rattle.base.specs.Words.{wordFrom}
 use Rattle.context.specs.Blocks.{handleIns}
 use Rattle.context.specs.Context.{Maps, Given, Context, Step, on, goes, ends, refuses}
 use Rattle.context.specs.Turn.{countsOf, contextAt, walkOf, closed, functionOf, endingAt, settled, turnAt, turn, armSize}
-use Rattle.stepper.specs.Calls.{isGoing}
+use Rattle.stepper.specs.Stepper.{isGoing}
 use Rattle.walk.specs.declared.Answer.{Answer}
 use Rattle.walk.specs.declared.Answer.the-variants.{Going, Accepted, Refused}
 use Rattle.walk.specs.declared.Walk.{Walk}
-use Rattle.walk.specs.IntoFunction.{intoFunction, endOf}
+use Rattle.walk.specs.IntoFunction.{intoFunction, endAddress}
 use Rattle.invariants.proofs.BlockLaws.{never-on}
 use Rattle.invariants.proofs.MoveLaws.{goes-past}
 
@@ -25,7 +21,7 @@ use Rattle.invariants.proofs.MoveLaws.{goes-past}
 pub function-ends : (end : ℕ) (c : Context) → isGoing (functionOf end c) ≡ false
 unfolding intoFunction
 function-ends end c =
-    step (ltb (c .given .options .«module_end») (endOf (c .given .options .«known_end») end (c .progress .«last_pool_address»))) _ refl
+    step (ltb (c .given .options .«module_end») (endAddress (c .given .options .«known_end») end (c .progress .«last_pool_address»))) _ refl
   where
     step : (b : Bool) (x : Answer) → isGoing x ≡ false → isGoing (pick b (Refused 14 0 0) x) ≡ false
     step true x e = refl

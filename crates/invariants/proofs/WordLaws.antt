@@ -1,13 +1,6 @@
 -- A word that is found lies wholly in the code.
 -- Assumes nothing.
-use mathlib.Core.Path.{_≡_, refl}
-use mathlib.Core.Bool.{Bool, true, false}
-use mathlib.Core.List.{List}
-use Prim.Native.Nat.{ℕ, _+_, _-_, _≤_}
-use native.Mathlib.Omega.{arith}
-use lib.Dec.{ltb}
-use lib.ListN.{length, drop, length-drop}
-use borrow.Author.Tests.{ltb-false}
+use Rattle.base.proofs.Prelude.{refl, _≡_, true, false, Bool, List, _≤_, ℕ, _+_, _-_, arith, ltb, length, drop, length-drop, ltb-false}
 use Rattle.base.specs.Choice.{pick}
 use Rattle.base.specs.Words.{wordFrom, firstWord}
 use Rattle.base.specs.declared.word.Word.{Word}

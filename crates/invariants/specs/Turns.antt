@@ -5,7 +5,7 @@ use Prim.Native.Nat.{ℕ, zero, suc}
 use Rattle.base.specs.Choice.{pick}
 use Rattle.context.specs.Context.{Given}
 use Rattle.context.specs.Turn.{Turned, turn}
-use Rattle.stepper.specs.Calls.{After, isGoing, step}
+use Rattle.stepper.specs.Stepper.{After, isGoing, step}
 use Rattle.walk.specs.declared.Options.{Options}
 
 module _ (g : Given) where

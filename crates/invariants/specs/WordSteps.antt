@@ -9,7 +9,7 @@ use Rattle.base.specs.declared.word.Word.the-variants.{Found, Missing}
 use Rattle.base.specs.Choice.{both}
 use Rattle.base.specs.Words.{wordFrom}
 use Rattle.context.specs.Lists.{Lists}
-use Rattle.stepper.specs.Calls.{isGoing, numberAt, step}
+use Rattle.stepper.specs.Stepper.{isGoing, numberAt, step}
 use Rattle.walk.specs.declared.Options.{Options}
 use Rattle.walk.specs.declared.Walk.{Walk}
 

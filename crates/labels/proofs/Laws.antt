@@ -1,13 +1,6 @@
 -- A branch to a label: the label that is entered, the destination that it raises, and the way past pools.
 -- Assumes nothing.
-use mathlib.Core.Path.{_≡_, refl, sym, ap, _∙_}
-use mathlib.Core.Bool.{Bool, true, false}
-use mathlib.Core.List.{List, [], _∷_}
-use Prim.Native.Nat.{ℕ, _+_, _<_, _^_}
-use native.Mathlib.Omega.{arith}
-use borrow.Author.Tests.{ltb-true}
-use lib.Dec.{ltb}
-use lib.ListN.{length}
+use Rattle.base.proofs.Prelude.{_∙_, sym, refl, _≡_, ap, false, true, Bool, List, [], _∷_, ℕ, _+_, _<_, _^_, arith, ltb, length, ltb-true}
 use Rattle.arm.specs.declared.Ins.{Ins}
 use Rattle.base.specs.Choice.{pick}
 use Rattle.base.specs.Refusals.{listFull}

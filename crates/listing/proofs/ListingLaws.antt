@@ -1,15 +1,8 @@
 -- How long a listing is, and what it shows.
 -- Assumes nothing.
-use mathlib.Core.Path.{_≡_, refl, sym, ap, _∙_}
-use mathlib.Core.Bool.{Bool, true, false}
-use mathlib.Core.List.{List, [], _∷_, _++_, append-assoc, append-nil}
-use Prim.Native.Nat.{ℕ, zero, suc, _+_, _*_, _-_, _/_, _≤_}
-use native.Mathlib.Nat.{zero-mul, suc-mul}
-use native.Mathlib.Omega.{arith}
-use borrow.Author.Tests.{leb-true, leb-false, lt-leb, le-leb}
-use lib.Dec.{leb}
-use lib.ListN.{length, take, drop, length-append}
-use lib.Seq.{drop-drop}
+use Rattle.base.proofs.Prelude.{_∙_, sym, refl, _≡_, ap, false, true, Bool, List, [], _∷_, _++_, append-assoc, append-nil, _≤_, ℕ, _+_, _-_, suc, _*_}
+use Rattle.base.proofs.Prelude.{zero, _/_, arith, zero-mul, suc-mul, leb, length, drop, take, length-append, drop-drop, le-leb, lt-leb, leb-true}
+use Rattle.base.proofs.Prelude.{leb-false}
 use Rattle.context.specs.Blocks.{other}
 use Rattle.context.specs.Lists.{Lists, lists}
 use Rattle.rows.specs.Map.{mapIn}

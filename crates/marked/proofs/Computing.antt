@@ -1,10 +1,9 @@
 -- How a run is computed.
 -- Assumes nothing.
-use mathlib.Core.List.{List, [], _∷_}
-use Prim.Native.Nat.{ℕ, zero, suc}
+use Rattle.base.proofs.Prelude.{List, [], _∷_, ℕ, suc, zero}
 use Rattle.context.specs.Lists.{lists}
 use Rattle.walk.specs.declared.Counts.{Counts}
-use Rattle.stepper.specs.Calls.{begin, step, finish}
+use Rattle.stepper.specs.Stepper.{begin, step, finish}
 use Rattle.validity.specs.Validity.{isWindow, isInCode, areStarts, beginNumber, areInOrder, isWhole, areWhole, areHeld, arePools, areLists, stepNumber}
 use Rattle.context.specs.Turn.{turn, countsOf}
 use Rattle.context.specs.Blocks.{isIn, skipPool, inlineTableAt, skipInlineTable, marked as markCall, inConditionalBlock, isDestination, isEntryAt, isLongBranchDestination, jumpTable, illegalCode, branchOutside, markPool, forgetWritten, isTailCall, finalReturn, entryAfterBranch, pastPools, raisesLabel, labelRaised, handleLabel, isOtherFunction, branches, branched, branch, poolLoad, inlineTable, functionCall, checkDefined, fromReturn, toReturn, handleInsInner, handleIns}
@@ -19,8 +18,8 @@ use Rattle.predicates.specs.Predicates.{isEntryInstruction, isPoolLoad, poolFro
 use Rattle.analysis.specs.FunctionBranch.{movgePcLr, movFromSp, ldrIpPc, addR0Ip, atStart, afterEors, beforeBranch, afterLdr}
 use Rattle.analysis.specs.IllegalCode.{isShift, dereferenced, offsetByItself, readsPcIntoPc, illegalCode as analysis-illegalCode}
 use Rattle.analysis.specs.InlineTable.{tableAddress, subFrom, subPcOf, isTableLoad, tableMade}
-use Rattle.analysis.specs.JumpTable.{checkStart, compared, isJump, found, jumpOrBranch, isZeroLimit, signedBaseline, jumpAt, validTable, jumpTable as analysis-jumpTable, endOf}
-use Rattle.registers.specs.Registers.{cleared, forgotten, holding, sourceOf, missingFrom}
+use Rattle.analysis.specs.JumpTable.{checkStart, compared, isJump, found, jumpOrBranch, isZeroLimit, signedBaseline, jumpAt, validTable, jumpTable as analysis-jumpTable, endOfEntries}
+use Rattle.registers.specs.Registers.{columnForgotten, forgotten, holding, sourceOf, missingFrom}
 use Rattle.classes.specs.Class.{classNo}
 use Rattle.encodings.specs.Diagram.{column, columns, cond, uncond, bits, unconditional, view, fits, fitting, firstOr}
 use Rattle.encodings.specs.Encodings.{encodings, undefineds, encodingOn, encodingOf}
@@ -51,5 +50,5 @@ spelledIn n m = record {
 
 -- what a run computes with
 unfoldable pub calls : Unit {0}
-unfolding filled spelledIn bytes steps ran givenIn expectedIn begin step finish isWindow isInCode areStarts beginNumber areInOrder isWhole areWhole areHeld arePools areLists stepNumber turn isIn skipPool inlineTableAt skipInlineTable markCall inConditionalBlock isDestination isEntryAt isLongBranchDestination jumpTable illegalCode branchOutside markPool forgetWritten isTailCall finalReturn entryAfterBranch pastPools raisesLabel labelRaised handleLabel isOtherFunction branches branched branch poolLoad inlineTable functionCall checkDefined fromReturn toReturn handleInsInner handleIns flat mapIn inOrder atOrAbove firstKey lastKey rising ascending zeros padded rank stands inserted gapBy gapFrom firstWord wordFrom isChecked definedBefore undefinedRegister definedBy definedAfter begun startOf intoFunction isEntryInstruction isPoolLoad poolFrom poolAddress isMovPc isLdmPc isPopPc isBranchBack isSubsPcLr isLdrPc isEorPc isAddPc isReturnAlways isAddsFour isReturnAfter isReturn isNop isPush isStackStore asPrevious calledBy movgePcLr movFromSp ldrIpPc addR0Ip atStart afterEors beforeBranch afterLdr isShift dereferenced offsetByItself readsPcIntoPc analysis-illegalCode tableAddress subFrom subPcOf isTableLoad tableMade checkStart compared isJump found jumpOrBranch isZeroLimit signedBaseline jumpAt validTable analysis-jumpTable endOf cleared forgotten holding sourceOf missingFrom classNo column columns cond uncond bits unconditional view fits fitting firstOr encodings undefineds encodingOn encodingOf rotateRight rotations immediate decodeOf shiftName movName stmName ldmName strName ldrName nameOf classOf isOfOne regsOf signed modulo branchOffset loadOffset destination shiftOf zeroShiftOf zeroAmountOf shiftImmOf shiftAmountOf op2Of offsetOf addrOf modeOf extraOf targetOf formOf ifBit shifterSet offset2Set offset3Set writtenBackSet indexedSet statusSourceSet coprocessorResultSet usesOf defsOf restores writesFlags flagsOf
+unfolding filled spelledIn bytes steps ran givenIn expectedIn begin step finish isWindow isInCode areStarts beginNumber areInOrder isWhole areWhole areHeld arePools areLists stepNumber turn isIn skipPool inlineTableAt skipInlineTable markCall inConditionalBlock isDestination isEntryAt isLongBranchDestination jumpTable illegalCode branchOutside markPool forgetWritten isTailCall finalReturn entryAfterBranch pastPools raisesLabel labelRaised handleLabel isOtherFunction branches branched branch poolLoad inlineTable functionCall checkDefined fromReturn toReturn handleInsInner handleIns flat mapIn inOrder atOrAbove firstKey lastKey rising ascending zeros padded rank stands inserted gapBy gapFrom firstWord wordFrom isChecked definedBefore undefinedRegister definedBy definedAfter begun startOf intoFunction isEntryInstruction isPoolLoad poolFrom poolAddress isMovPc isLdmPc isPopPc isBranchBack isSubsPcLr isLdrPc isEorPc isAddPc isReturnAlways isAddsFour isReturnAfter isReturn isNop isPush isStackStore asPrevious calledBy movgePcLr movFromSp ldrIpPc addR0Ip atStart afterEors beforeBranch afterLdr isShift dereferenced offsetByItself readsPcIntoPc analysis-illegalCode tableAddress subFrom subPcOf isTableLoad tableMade checkStart compared isJump found jumpOrBranch isZeroLimit signedBaseline jumpAt validTable analysis-jumpTable endOfEntries columnForgotten forgotten holding sourceOf missingFrom classNo column columns cond uncond bits unconditional view fits fitting firstOr encodings undefineds encodingOn encodingOf rotateRight rotations immediate decodeOf shiftName movName stmName ldmName strName ldrName nameOf classOf isOfOne regsOf signed modulo branchOffset loadOffset destination shiftOf zeroShiftOf zeroAmountOf shiftImmOf shiftAmountOf op2Of offsetOf addrOf modeOf extraOf targetOf formOf ifBit shifterSet offset2Set offset3Set writtenBackSet indexedSet statusSourceSet coprocessorResultSet usesOf defsOf restores writesFlags flagsOf
 calls = tt

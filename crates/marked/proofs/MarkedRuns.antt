@@ -1,7 +1,6 @@
 -- Document 01's marked runs: the definitions give the table.
 -- Assumes nothing.
-use mathlib.Core.Path.{_≡_, refl, _∙_}
-use mathlib.Core.List.{map}
+use Rattle.base.proofs.Prelude.{_∙_, refl, _≡_, map}
 use Rattle.marked.proofs.Computing.{calls, spelledIn}
 use Rattle.marked.specs.Marked.{table, fourRows, given, expected}
 

@@ -1,4 +1,5 @@
 -- Document 01's marked runs, C1 to C12, in its order.
+-- Assumes nothing.
 use Prim.Native.Nat.{ℕ, zero, suc, _/_, _%_}
 use mathlib.Core.Bool.{Bool, true, false}
 use mathlib.Core.List.{List, [], _∷_}
@@ -8,7 +9,7 @@ use Rattle.context.specs.Context.{Maps}
 use Rattle.context.specs.Lists.{Lists, lists}
 use Rattle.context.specs.Turn.{countsOf}
 use Rattle.rows.specs.Map.{encode}
-use Rattle.stepper.specs.Calls.{After, begin, step, finish}
+use Rattle.stepper.specs.Stepper.{After, begin, step, finish}
 use Rattle.walk.specs.declared.Answer.{Answer}
 use Rattle.walk.specs.declared.Answer.the-variants.{Accepted, Refused}
 use Rattle.walk.specs.declared.Counts.{Counts}
@@ -26,9 +27,9 @@ pub record Marked : Type 0 where
   pub answer : Answer
   pub maps : Maps
 
-abbrev pub run :
+abbrev pub row :
     List ℕ → ℕ → ℕ → KnownEnd → Bool → Answer → List (List ℕ) → List (List ℕ) → List (List ℕ) → List (List ℕ) → List (List ℕ) → Marked
-run words base end known check answer labels pools jumps inlines calls = record {
+row words base end known check answer labels pools jumps inlines calls = record {
   words = words;
   base = base;
   moduleEnd = end;
@@ -47,44 +48,44 @@ accepted end last = Accepted (record { start = 0x0200_0000; end = end; «first_i
 abbrev pub table : List Marked
 table =
     -- C1
-    run (0xE59F_0000 ∷ 0xE12F_FF1E ∷ 0x1234_5678 ∷ []) 0x0200_0000 0x0200_000C Nothing false (accepted 0x0200_000C 0x0200_0008)
+    row (0xE59F_0000 ∷ 0xE12F_FF1E ∷ 0x1234_5678 ∷ []) 0x0200_0000 0x0200_000C Nothing false (accepted 0x0200_000C 0x0200_0008)
     [] ((0x0200_0008 ∷ 0x1234_5678 ∷ other ∷ []) ∷ []) [] [] []
     -- C2
-    ∷ run (0xE59F_0000 ∷ 0xE12F_FF1E ∷ 0x1234_5678 ∷ []) 0x0200_0000 0x0200_0008 Nothing false (Refused 14 0 0)
+    ∷ row (0xE59F_0000 ∷ 0xE12F_FF1E ∷ 0x1234_5678 ∷ []) 0x0200_0000 0x0200_0008 Nothing false (Refused 14 0 0)
     [] [] [] [] []
     -- C3
-    ∷ run (0xE12F_FF1E ∷ []) 0x0200_0000 0x0200_0004 Nothing false (accepted 0x0200_0004 0x0200_0004)
+    ∷ row (0xE12F_FF1E ∷ []) 0x0200_0000 0x0200_0004 Nothing false (accepted 0x0200_0004 0x0200_0004)
     [] [] [] [] []
     -- C4
-    ∷ run [] 0x0200_0000 0x0200_0000 Nothing false (Refused 14 0 0)
+    ∷ row [] 0x0200_0000 0x0200_0000 Nothing false (Refused 14 0 0)
     [] [] [] [] []
     -- C5
-    ∷ run (0xEAFF_FFFE ∷ []) 0x0200_0000 0x0200_0004 Nothing false (accepted 0x0200_0004 0x0200_0004)
+    ∷ row (0xEAFF_FFFE ∷ []) 0x0200_0000 0x0200_0004 Nothing false (accepted 0x0200_0004 0x0200_0004)
     [] [] [] [] []
     -- C6
-    ∷ run (0x0AFF_FFFD ∷ []) 0x01FF_8000 0x01FF_8004 Nothing false (Refused 9 0x01FF_8000 0)
+    ∷ row (0x0AFF_FFFD ∷ []) 0x01FF_8000 0x01FF_8004 Nothing false (Refused 9 0x01FF_8000 0)
     [] [] [] [] []
     -- C7
-    ∷ run (0xEA00_003E ∷ 0xE12F_FF1E ∷ []) 0x0200_0000 0x0200_0008 Nothing false (accepted 0x0200_0008 0x0200_0008)
+    ∷ row (0xEA00_003E ∷ 0xE12F_FF1E ∷ []) 0x0200_0000 0x0200_0008 Nothing false (accepted 0x0200_0008 0x0200_0008)
     [] [] [] [] ((0x0200_0000 ∷ 0xEA00_003E ∷ 0x0200_0100 ∷ arm ∷ []) ∷ [])
     -- C8
-    ∷ run (0xE350_0002 ∷ 0x908F_F100 ∷ 0xEA00_0002 ∷ 0xEA00_0001 ∷ 0xEA00_0000 ∷ 0xEAFF_FFFF ∷ 0xE12F_FF1E ∷ [])
+    ∷ row (0xE350_0002 ∷ 0x908F_F100 ∷ 0xEA00_0002 ∷ 0xEA00_0001 ∷ 0xEA00_0000 ∷ 0xEAFF_FFFF ∷ 0xE12F_FF1E ∷ [])
     0x0200_0000 0x0200_001C Nothing false (accepted 0x0200_001C 0x0200_001C)
     ((0x0200_0018 ∷ []) ∷ []) [] ((0x0200_000C ∷ 12 ∷ []) ∷ []) [] []
     -- C9
-    ∷ run (0xE59F_C000 ∷ 0xE12F_FF1C ∷ 0x0000_0000 ∷ []) 0x0200_0000 0x0200_000C Nothing false (accepted 0x0200_000C 0x0200_0008)
+    ∷ row (0xE59F_C000 ∷ 0xE12F_FF1C ∷ 0x0000_0000 ∷ []) 0x0200_0000 0x0200_000C Nothing false (accepted 0x0200_000C 0x0200_0008)
     [] ((0x0200_0008 ∷ 0x0000_0000 ∷ call ∷ []) ∷ []) [] [] []
     -- C10
-    ∷ run (0xE350_0000 ∷ 0xE350_0000 ∷ 0x908F_F100 ∷ 0xE12F_FF1E ∷ []) 0x0200_0000 0x0200_0010 Nothing false (accepted 0x0200_0010 0x0200_0010)
+    ∷ row (0xE350_0000 ∷ 0xE350_0000 ∷ 0x908F_F100 ∷ 0xE12F_FF1E ∷ []) 0x0200_0000 0x0200_0010 Nothing false (accepted 0x0200_0010 0x0200_0010)
     [] [] [] [] []
     -- C11
-    ∷ run (0xE12F_FF1E ∷ []) 0x0200_0000 0x0200_0008 (At 0x0200_0008) false (accepted 0x0200_0008 0x0200_0004)
+    ∷ row (0xE12F_FF1E ∷ []) 0x0200_0000 0x0200_0008 (At 0x0200_0008) false (accepted 0x0200_0008 0x0200_0004)
     [] [] [] [] []
     -- C12, check off
-    ∷ run (0xE1A0_0004 ∷ 0xE12F_FF1E ∷ []) 0x0200_0000 0x0200_0008 Nothing false (accepted 0x0200_0008 0x0200_0008)
+    ∷ row (0xE1A0_0004 ∷ 0xE12F_FF1E ∷ []) 0x0200_0000 0x0200_0008 Nothing false (accepted 0x0200_0008 0x0200_0008)
     [] [] [] [] []
     -- C12, check on
-    ∷ run (0xE1A0_0004 ∷ 0xE12F_FF1E ∷ []) 0x0200_0000 0x0200_0008 Nothing true (Refused 11 0x0200_0000 4)
+    ∷ row (0xE1A0_0004 ∷ 0xE12F_FF1E ∷ []) 0x0200_0000 0x0200_0008 Nothing true (Refused 11 0x0200_0000 4)
     [] [] [] [] []
     ∷ []
 

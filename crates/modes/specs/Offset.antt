@@ -1,4 +1,5 @@
 -- The signed offsets of branches and loads, and the address that a branch goes to.
+-- Assumes nothing.
 use Prim.Native.Nat.{ℕ, _+_, _-_, _%_}
 use mathlib.Core.Bool.{true, false}
 use lib.Dec.{ltb, eqb}

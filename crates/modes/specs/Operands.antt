@@ -1,4 +1,5 @@
 -- Operands by the manual's addressing modes (chapter A5).
+-- Assumes nothing.
 use Prim.Native.Nat.{ℕ, _*_, _/_, _%_, _^_}
 use mathlib.Core.Bool.{true, false}
 use mathlib.Core.List.{[], _∷_}

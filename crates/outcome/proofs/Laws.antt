@@ -1,10 +1,6 @@
 -- Five lists that are zero in every place.
 -- Assumes nothing.
-use mathlib.Core.Path.{_≡_, ap, _∙_}
-use mathlib.Core.List.{List, []}
-use Prim.Native.Nat.{ℕ, _-_}
-use native.Mathlib.Omega.{arith}
-use lib.ListN.{length, replicate}
+use Rattle.base.proofs.Prelude.{_∙_, _≡_, ap, List, [], ℕ, _-_, arith, length, replicate}
 use Rattle.context.specs.Lists.{Lists, lists, zeroed}
 use Rattle.rows.specs.Map.{flat, encode}
 use Rattle.rows.specs.Rows.{padded}

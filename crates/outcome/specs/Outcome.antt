@@ -33,8 +33,8 @@ abbrev pub withCounts : Counts → Walk → Walk
 withCounts n w = record { progress = w .progress; machines = w .machines; registers = w .registers; counts = n; result = w .result }
 
 -- the walk as it was, but for these counts and its result
-abbrev pub refused : Walk → Counts → ℕ → ℕ → ℕ → Walk
-refused w n number a r = record {
+abbrev pub refusedWalk : Walk → Counts → ℕ → ℕ → ℕ → Walk
+refusedWalk w n number a r = record {
   progress = w .progress;
   machines = w .machines;
   registers = w .registers;
@@ -53,7 +53,7 @@ abbrev pub settles : Options → Walk → ℕ → Then → Registers → State �
 settles o w pool On g s = walkIn Going g s
 settles o w pool Goes g s = walkIn Going g s
 settles o w pool (Ends end) g s = endsAt o pool end g s
-settles o w pool (Refuses n r) g s = refused w (s .counts) n (w .progress .address) r
+settles o w pool (Refuses n r) g s = refusedWalk w (s .counts) n (w .progress .address) r
 
 abbrev pub isRefused : Answer → Bool
 isRefused Going = false

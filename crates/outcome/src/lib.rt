@@ -21,7 +21,7 @@ ghost use Rattle.context.specs.Context.{poolRow};
 ghost use Rattle.context.specs.Lists.{lists, AllHeld, zeroed};
 ghost use Rattle.context.specs.Turn.{keyOr0, noMaps, countsOf};
 ghost use Rattle.rows.specs.Map.{Held, mapIn, firstKey};
-ghost use Rattle.outcome.specs.Outcome.{stateOf, walkIn, withCounts, refused, endsAt, settles, isRefused};
+ghost use Rattle.outcome.specs.Outcome.{stateOf, walkIn, withCounts, refusedWalk, endsAt, settles, isRefused};
 
 // The state before a step.
 pub fn state_of(w: Walk) -> State
@@ -71,8 +71,8 @@ pub fn with_counts(w: Walk, counts: Counts) -> Walk
 }
 
 // The walk as it was, but for these counts and its result.
-pub fn refused(w: Walk, counts: Counts, number: u8, address: u32, register: u8) -> Walk
-    ensures { λ r. ⌜ r ≡ refused w counts number address register ⌝ }
+pub fn refused_walk(w: Walk, counts: Counts, number: u8, address: u32, register: u8) -> Walk
+    ensures { λ r. ⌜ r ≡ refusedWalk w counts number address register ⌝ }
 {
     let progress = w.progress;
     let machines = w.machines;
@@ -131,7 +131,7 @@ pub fn settle(o: Options, w: Walk, h: Handled, pools: &[u32]) -> Walk
         Then::Refuses { number, register } => {
             let p = w.progress;
             let n = s.counts;
-            refused(w, n, number, p.address, register)
+            refused_walk(w, n, number, p.address, register)
         }
     }
 }

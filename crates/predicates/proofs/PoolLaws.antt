@@ -1,11 +1,8 @@
 -- Laws of a pool load's address: the sum of an address and an offset as 64-bit code computes it, and the definition in each of its cases.
 -- Assumes nothing.
-use Prim.Native.Nat.{ℕ, suc, _+_, _-_, _*_, _/_, _^_, _<_}
-use mathlib.Core.Bool.{Bool, true, false, cond}
-use mathlib.Core.Path.{_≡_, refl, sym, ap, _∙_, subst, subst⁻¹}
-use native.Mathlib.Omega.{arith}
-use borrow.Author.Tests.{ltb-true}
-use lib.Dec.{T, ltb}
+use Rattle.base.proofs.Prelude.{_∙_, sym, refl, _≡_, ap, subst, subst⁻¹, false, true, Bool, ℕ, _+_, _<_, _-_, suc, _*_, _^_, _/_, arith, ltb, T}
+use Rattle.base.proofs.Prelude.{ltb-true}
+use mathlib.Core.Bool.{cond}
 use lib.IntN.{ℤ, pos, negsuc, natAbs, _+ℤ_}
 use lib.Signed.{mag, ltZ, nonNeg}
 use mir.Syntax.{w32, w64}

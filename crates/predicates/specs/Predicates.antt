@@ -1,4 +1,5 @@
 -- functions.rs: what the walk asks of one instruction, in the source's names and order.
+-- Assumes nothing.
 use Prim.Native.Nat.{ℕ, _+_, _/_, _*_, _%_}
 use mathlib.Core.Bool.{Bool, true, false, not}
 use lib.Dec.{eqb, ltb, leb}

@@ -1,39 +1,34 @@
 -- The laws of the loops over the registers.
 -- Assumes nothing.
-use mathlib.Core.Path.{_≡_, refl, ap}
-use mathlib.Core.List.{List, [], _∷_, _++_}
-use Prim.Native.Nat.{ℕ, zero, suc, _+_, _-_, _/_, _%_, _^_, _≤_, _<_}
-use native.Mathlib.Nat.{le-of-suc-le-suc}
-use native.Mathlib.Omega.{arith}
-use borrow.Author.Tests.{eq-eqb, ne-eqb}
+use Rattle.base.proofs.Prelude.{refl, _≡_, ap, List, [], _∷_, _++_, _≤_, ℕ, _+_, _<_, _-_, suc, zero, _^_, _/_, _%_, arith, le-of-suc-le-suc, length}
+use Rattle.base.proofs.Prelude.{drop, take, set, eq-eqb, ne-eqb}
 use lib.Pow.{shr-lt}
-use lib.ListN.{length, take, drop, set}
-use Rattle.registers.specs.Registers.{cleared, missingFrom}
+use Rattle.registers.specs.Registers.{columnForgotten, missingFrom}
 
 -- a column that is cleared before register r, once the rest of the set is cleared too
 abbrev pub half : ℕ → ℕ → List ℕ → List ℕ
-half r rest column = take r column ++ cleared rest (drop r column)
+half r rest column = take r column ++ columnForgotten rest (drop r column)
 
 -- one turn, where the register is in the set and where it is not, and the end, where none is left in it
 pub half-in : (r rest : ℕ) (l : List ℕ) → r < length l → rest % 2 ≡ 1 → half (suc r) (rest / 2) (set l r 0) ≡ half r rest l
-unfolding cleared
+unfolding columnForgotten
 half-in r rest [] h e = absurd (omega arith)
 half-in zero rest (x ∷ l) h e = rw (eq-eqb (rest % 2) 1 e)
 half-in (suc r) rest (x ∷ l) h e = ap (λ (m : List ℕ). x ∷ m) (half-in r rest l (le-of-suc-le-suc h) e)
 
 pub half-out : (r rest : ℕ) (l : List ℕ) → r < length l → (rest % 2 ≡ 1 → ⊥) → half (suc r) (rest / 2) l ≡ half r rest l
-unfolding cleared
+unfolding columnForgotten
 half-out r rest [] h e = absurd (omega arith)
 half-out zero rest (x ∷ l) h e = rw (ne-eqb (rest % 2) 1 e)
 half-out (suc r) rest (x ∷ l) h e = ap (λ (m : List ℕ). x ∷ m) (half-out r rest l (le-of-suc-le-suc h) e)
 
-none-cleared : (l : List ℕ) → cleared 0 l ≡ l
-unfolding cleared
+none-cleared : (l : List ℕ) → columnForgotten 0 l ≡ l
+unfolding columnForgotten
 none-cleared [] = refl
 none-cleared (x ∷ l) = ap (λ (m : List ℕ). x ∷ m) (none-cleared l)
 
 pub half-none : (r : ℕ) (l : List ℕ) → half r 0 l ≡ l
-unfolding cleared
+unfolding columnForgotten
 half-none zero l = none-cleared l
 half-none (suc r) [] = refl
 half-none (suc r) (x ∷ l) = ap (λ (m : List ℕ). x ∷ m) (half-none r l)

@@ -1,4 +1,5 @@
 -- Sets of registers as 16 bits, and the pool words that registers hold: 0 where there is none.
+-- Assumes nothing.
 use Prim.Native.Nat.{ℕ, zero, suc, _+_, _/_, _%_, _^_}
 use mathlib.Core.Bool.{Bool, true, false, not}
 use mathlib.Core.List.{List, [], _∷_}
@@ -12,13 +13,13 @@ abbrev pub isOdd : ℕ → Bool
 isOdd set = eqb (set % 2) 1
 
 -- a column of the registers from some register on, without those of a set
-unfoldable pub cleared : ℕ → List ℕ → List ℕ
-cleared set [] = []
-cleared set (x ∷ xs) = pick (isOdd set) 0 x ∷ cleared (set / 2) xs
+unfoldable pub columnForgotten : ℕ → List ℕ → List ℕ
+columnForgotten set [] = []
+columnForgotten set (x ∷ xs) = pick (isOdd set) 0 x ∷ columnForgotten (set / 2) xs
 
 -- written registers forget their pool words
 unfoldable pub forgotten : Registers → ℕ → Registers
-forgotten r set = record { values = cleared set (r .values); sources = cleared set (r .sources) }
+forgotten r set = record { values = columnForgotten set (r .values); sources = columnForgotten set (r .sources) }
 
 -- a register now holds a pool word
 unfoldable pub holding : Registers → ℕ → ℕ → ℕ → Registers

@@ -1,5 +1,6 @@
 -- The registers that an instruction reads and writes, and whether it sets condition flags, from the Operation sections of the manual
 -- (chapters A4 and A10). A set is a number with bit r for register r.
+-- Assumes nothing.
 use Prim.Native.Nat.{ℕ, _+_, _*_, _/_, _%_, _^_}
 use mathlib.Core.Bool.{Bool, true, false}
 use lib.Bits.{bitOr}

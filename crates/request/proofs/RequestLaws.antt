@@ -1,13 +1,7 @@
 -- What an input that is a request has.
 -- Assumes nothing.
-use mathlib.Core.Path.{_≡_, refl, _∙_}
-use mathlib.Core.Bool.{Bool, true, false}
-use mathlib.Core.List.{List, []}
-use Prim.Native.Nat.{ℕ, _+_, _≤_}
-use native.Mathlib.Omega.{arith}
-use lib.Dec.{leb}
-use lib.ListN.{length, length-drop}
-use borrow.Author.Tests.{leb-true, eqb-true, le-leb, eq-eqb}
+use Rattle.base.proofs.Prelude.{_∙_, refl, _≡_, false, true, Bool, List, [], _≤_, ℕ, _+_, arith, leb, length, length-drop, eq-eqb, le-leb, leb-true}
+use Rattle.base.proofs.Prelude.{eqb-true}
 use Rattle.base.proofs.ChoiceLaws.{both-true}
 use Rattle.base.specs.Choice.{pick, both}
 use Rattle.words.specs.Lines.{wordAt}

@@ -1,4 +1,5 @@
 -- Document 01: what the listing program reads, byte by byte.
+-- Assumes nothing.
 use Prim.Native.Nat.{ℕ, _+_}
 use mathlib.Core.Bool.{Bool}
 use mathlib.Core.List.{List}

@@ -1,16 +1,11 @@
 -- The laws of an insert: the numbers that it moves and writes are those of the map after it.
 -- Assumes nothing.
-use mathlib.Core.Path.{_≡_, refl, sym, ap, _∙_}
-use mathlib.Core.Bool.{Bool, true, false, not}
-use mathlib.Core.List.{List, [], _∷_, _++_, map, append-assoc, append-nil}
-use Prim.Native.Nat.{ℕ, zero, suc, _+_, _*_, _-_, _≤_, _<_}
-use native.Mathlib.Nat.{not-suc-le-zero, le-of-suc-le-suc, zero-mul, suc-mul}
-use native.Mathlib.Numerals.{add-one}
-use native.Mathlib.Omega.{arith}
-use borrow.Author.Tests.{le-leb, lt-leb}
-use lib.Dec.{leb}
-use lib.ListN.{length, getD, take, drop, set, replicate, length-append, length-set, length-replicate, take-append-drop, List·getD-append}
-use lib.Seq.{slice, paste, length-take-le, take-suc, slice-empty, slice-cons, set-at, append-snoc, take-append-le, drop-append-le, take-append-add, drop-append-add, take-at, drop-at, getD-take, take-take}
+use Rattle.base.proofs.Prelude.{_∙_, sym, refl, _≡_, ap, false, true, Bool, not, List, [], _∷_, _++_, map, append-assoc, append-nil, _≤_, ℕ, _+_, _<_}
+use Rattle.base.proofs.Prelude.{_-_, suc, _*_, zero, arith, le-of-suc-le-suc, not-suc-le-zero, zero-mul, suc-mul, add-one, leb, length, getD, drop}
+use Rattle.base.proofs.Prelude.{take, replicate, length-set, set, length-append, length-replicate, take-append-drop, length-take-le, take-at, drop-at}
+use Rattle.base.proofs.Prelude.{getD-take, le-leb, lt-leb}
+use lib.ListN.{List·getD-append}
+use lib.Seq.{slice, paste, take-suc, slice-empty, slice-cons, set-at, append-snoc, take-append-le, drop-append-le, take-append-add, drop-append-add, take-take}
 use Rattle.base.specs.Choice.{pick}
 use Rattle.rows.specs.Rows.{padded, insertAt, rank, stands, inserted}
 use Rattle.rows.proofs.RowLaws.{insertAt-length, rank-within, stands-within, inserted-is, inserted-length, ascending-kept}

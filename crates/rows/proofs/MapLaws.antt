@@ -1,15 +1,12 @@
 -- The laws of a map in a slice: its rows, and the slice told by them.
 -- Assumes nothing.
-use mathlib.Core.Path.{_≡_, refl, sym, ap, _∙_}
-use mathlib.Core.Bool.{Bool, true, false}
-use mathlib.Core.List.{List, [], _∷_, _++_, map, append-assoc}
-use Prim.Native.Nat.{ℕ, zero, suc, _+_, _*_, _-_, _≤_, _<_}
-use native.Mathlib.Nat.{not-suc-le-zero, le-of-suc-le-suc, add-zero, zero-mul, suc-mul, mul-le-mul-left, mul-le-mul-right}
-use native.Mathlib.Omega.{arith}
-use borrow.Author.Tests.{leb-true, le-leb}
-use lib.Dec.{leb}
-use lib.ListN.{length, getD, take, drop, replicate, length-append, length-drop, length-replicate, replicate-append-replicate, List·getD-map}
-use lib.Seq.{length-take-le, drop-drop, take-add, getD-take, getD-drop, take-at, drop-at}
+use Rattle.base.proofs.Prelude.{_∙_, sym, refl, _≡_, ap, false, true, Bool, List, [], _∷_, _++_, map, append-assoc, _≤_, ℕ, _+_, _<_, _-_, suc, _*_}
+use Rattle.base.proofs.Prelude.{zero, arith, le-of-suc-le-suc, not-suc-le-zero, add-zero, zero-mul, suc-mul, leb, length, getD, drop, take, replicate}
+use Rattle.base.proofs.Prelude.{length-drop, length-append, length-replicate, length-take-le, take-at, drop-at, drop-drop, getD-drop, getD-take}
+use Rattle.base.proofs.Prelude.{le-leb, leb-true}
+use native.Mathlib.Nat.{mul-le-mul-left, mul-le-mul-right}
+use lib.ListN.{replicate-append-replicate, List·getD-map}
+use lib.Seq.{take-add}
 use Rattle.base.specs.Choice.{pick}
 use Rattle.rows.specs.Order.{rising, ascending, zeros, cleared}
 use Rattle.rows.specs.Rows.{padded}

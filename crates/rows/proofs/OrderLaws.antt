@@ -1,17 +1,11 @@
 -- The laws of `ascending`, `zeros` and what follows from them.
 -- Assumes nothing.
-use mathlib.Core.Path.{_≡_, refl, sym, ap, _∙_}
-use mathlib.Core.Bool.{Bool, true, false, false≢true}
-use mathlib.Core.List.{List, [], _∷_, _++_}
-use Prim.Native.Nat.{ℕ, zero, suc, _+_, _-_, _≤_, _<_}
-use native.Mathlib.Nat.{not-suc-le-zero, le-of-suc-le-suc, lt-trans}
-use native.Mathlib.Numerals.{add-one}
-use native.Mathlib.Omega.{arith}
-use borrow.Author.Tests.{ltb-true, leb-true, le-leb, eqb-true, lt-ltb, le-ltb, eq-eqb, ne-eqb}
-use lib.Dec.{ltb, leb, eqb}
-use lib.ListN.{length, take, drop, getD, replicate, take-append-drop, length-drop}
-use lib.Seq.{drop-cons, slice-cons, slice-empty, length-take-le, drop-append-seam}
-use lib.ListN.{drop-of-length-le, length-append}
+use Rattle.base.proofs.Prelude.{_∙_, sym, refl, _≡_, ap, false, true, Bool, false≢true, List, [], _∷_, _++_, _≤_, ℕ, _+_, _<_, _-_, suc, zero, arith}
+use Rattle.base.proofs.Prelude.{le-of-suc-le-suc, not-suc-le-zero, add-one, eqb, ltb, leb, length, getD, drop, take, replicate, length-drop}
+use Rattle.base.proofs.Prelude.{length-append, drop-of-length-le, take-append-drop, drop-cons, length-take-le, eq-eqb, ne-eqb, lt-ltb, le-ltb, le-leb}
+use Rattle.base.proofs.Prelude.{leb-true, eqb-true, ltb-true}
+use native.Mathlib.Nat.{lt-trans}
+use lib.Seq.{slice-cons, slice-empty, drop-append-seam}
 use Rattle.base.specs.Choice.{pick}
 use Rattle.base.proofs.ChoiceLaws.{both-first, both-second}
 use Rattle.rows.specs.Order.{rising, ascending, zeros, cleared}

@@ -1,16 +1,8 @@
 -- The laws of lists of entries, over any type of entry and any key.
 -- Assumes nothing.
-use mathlib.Core.Path.{_≡_, refl, sym, ap, _∙_}
-use mathlib.Core.Bool.{Bool, true, false, false≢true}
-use mathlib.Core.List.{List, [], _∷_, _++_, map}
-use mathlib.Core.Option.{some}
-use Prim.Native.Nat.{ℕ, zero, suc, _≤_, _<_, zero-le, suc-le-suc}
-use native.Mathlib.Nat.{not-suc-le-zero, le-of-suc-le-suc, eq-or-lt-of-le}
-use mathlib.Core.Logic.{⊎-elim}
-use native.Mathlib.Omega.{arith}
-use borrow.Author.Tests.{ltb-true, ltb-false, eqb-true, eqb-false, lt-ltb, le-ltb, eq-eqb, ne-eqb}
-use lib.Dec.{ltb, eqb}
-use lib.ListN.{length, set, getD, length-set}
+use Rattle.base.proofs.Prelude.{_∙_, sym, refl, _≡_, ap, false, true, Bool, false≢true, List, [], _∷_, _++_, map, ⊎-elim, some, _≤_, ℕ, _<_, suc}
+use Rattle.base.proofs.Prelude.{zero, zero-le, suc-le-suc, arith, le-of-suc-le-suc, not-suc-le-zero, eq-or-lt-of-le, eqb, ltb, length, getD}
+use Rattle.base.proofs.Prelude.{length-set, set, eq-eqb, ne-eqb, lt-ltb, le-ltb, eqb-true, ltb-true, ltb-false, eqb-false}
 use Rattle.base.specs.Choice.{pick}
 use Rattle.rows.specs.Order.{rising, ascending}
 use Rattle.rows.specs.Rows.{insertAt, rank, stands, lookup, inserted}

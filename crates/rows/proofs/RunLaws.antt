@@ -1,12 +1,7 @@
 -- The laws of the run of steps of 4, for any test for "is held".
 -- Assumes nothing.
-use mathlib.Core.Path.{_≡_, refl}
-use mathlib.Core.Bool.{Bool, true, false}
-use Prim.Native.Nat.{ℕ, zero, suc, _+_, _-_, _*_, _^_, _≤_, _<_}
-use native.Mathlib.Nat.{not-suc-le-zero, le-of-suc-le-suc}
-use native.Mathlib.Omega.{arith}
-use borrow.Author.Tests.{lt-ltb, le-ltb, ltb-true, ltb-false}
-use lib.Dec.{ltb}
+use Rattle.base.proofs.Prelude.{refl, _≡_, false, true, Bool, _≤_, ℕ, _+_, _<_, _-_, suc, _*_, zero, _^_, arith, le-of-suc-le-suc, not-suc-le-zero}
+use Rattle.base.proofs.Prelude.{ltb, lt-ltb, le-ltb, ltb-true, ltb-false}
 use Rattle.base.specs.Choice.{choose}
 use Rattle.rows.specs.Run.{gapBy, gapFrom}
 use Rattle.rows.specs.declared.Gap.{Gap}

@@ -1,14 +1,10 @@
 -- The laws of the lookups: an address's place among the rows, met from below and from above.
 -- Assumes nothing.
-use mathlib.Core.Path.{_≡_, refl, sym, ap, _∙_}
-use mathlib.Core.Bool.{Bool, true, false}
-use mathlib.Core.List.{List, [], _∷_, map}
-use Prim.Native.Nat.{ℕ, zero, suc, _+_, _-_, _*_, _/_, _^_, _≤_, _<_, zero-le, suc-le-suc}
-use native.Mathlib.Nat.{not-suc-le-zero, le-of-suc-le-suc}
-use native.Mathlib.Omega.{arith}
-use borrow.Author.Tests.{lt-ltb, le-ltb, eq-eqb, ne-eqb, ltb-true, ltb-false}
-use lib.Dec.{ltb, eqb, leb·suc-suc}
-use lib.ListN.{length, getD, take, length-map, List·getD-map}
+use Rattle.base.proofs.Prelude.{_∙_, sym, refl, _≡_, ap, false, true, Bool, List, [], _∷_, map, _≤_, ℕ, _+_, _<_, _-_, suc, _*_, zero, _^_, _/_}
+use Rattle.base.proofs.Prelude.{zero-le, suc-le-suc, arith, le-of-suc-le-suc, not-suc-le-zero, eqb, ltb, length, getD, take, eq-eqb, ne-eqb, lt-ltb}
+use Rattle.base.proofs.Prelude.{le-ltb, ltb-true, ltb-false}
+use lib.Dec.{leb·suc-suc}
+use lib.ListN.{length-map, List·getD-map}
 use lib.Seq.{take-all}
 use Rattle.base.specs.Choice.{pick}
 use Rattle.rows.specs.Order.{rising, ascending}

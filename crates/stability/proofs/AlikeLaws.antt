@@ -1,11 +1,7 @@
 -- Two contexts that differ in their code, in the values of their pools and in the values in registers alone; and what a block comes to on
 -- both.
 -- Assumes nothing.
-use mathlib.Core.Path.{_≡_, refl}
-use mathlib.Core.Bool.{Bool, true, false}
-use mathlib.Core.List.{List}
-use Prim.Native.Nat.{ℕ, _+_, _-_, _≤_, _<_}
-use lib.ListN.{length}
+use Rattle.base.proofs.Prelude.{refl, _≡_, true, false, Bool, List, _≤_, ℕ, _+_, _<_, _-_, length}
 use Rattle.base.specs.Choice.{pick}
 use Rattle.base.specs.Refusals.{poolOutside}
 use Rattle.context.specs.Context.{Given, Context, Step, on, goes, ends, refuses, _▸_, poolsTo}

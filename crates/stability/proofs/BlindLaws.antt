@@ -1,13 +1,6 @@
 -- Each block of a step on two codes. Only the test behind a return and a pool load read the code.
 -- Assumes nothing.
-use mathlib.Core.Path.{_≡_, refl}
-use mathlib.Core.Bool.{Bool, true, false, not}
-use mathlib.Core.List.{List, [], _∷_}
-use Prim.Native.Nat.{ℕ, _+_, _≤_}
-use native.Mathlib.Omega.{arith}
-use borrow.Author.Tests.{ltb-true}
-use lib.Dec.{eqb, ltb}
-use lib.ListN.{length, getD, set}
+use Rattle.base.proofs.Prelude.{refl, _≡_, false, true, Bool, not, List, [], _∷_, _≤_, ℕ, _+_, arith, eqb, ltb, length, getD, set, ltb-true}
 use Rattle.analysis.specs.declared.illegal_code.IllegalCodeState.{IllegalCodeState}
 use Rattle.analysis.specs.declared.illegal_code.IllegalCodeState.the-variants.{Start, ShiftedRegisterValue, Illegal}
 use Rattle.analysis.specs.declared.inline_table.InlineTableAnswer.{InlineTableAnswer}
@@ -38,7 +31,7 @@ use Rattle.context.specs.Context.{enterLabel, enterJumpTable, enterInlineTable,
 use Rattle.predicates.specs.declared.Callee.{Callee}
 use Rattle.predicates.specs.declared.Callee.the-variants.{Nothing as No-Call, Arm, Thumb}
 use Rattle.predicates.specs.Predicates.{isBranch, isBx, isEntryInstruction, isPoolLoad, poolAddress, calledBy}
-use Rattle.registers.specs.Registers.{cleared, forgotten, holding, sourceOf}
+use Rattle.registers.specs.Registers.{columnForgotten, forgotten, holding, sourceOf}
 use Rattle.base.proofs.ChoiceLaws.{both-second}
 use Rattle.rows.specs.Rows.{inserted}
 use Rattle.rows.specs.Map.{keyOf, stands-in, atOrAbove, fits}
@@ -148,8 +141,8 @@ module _ (g : Given) (c d : List ℕ) (a : ℕ) where
         (record {
           pools = t .pools;
           others = t .others;
-          values = cleared (i .defs) (t .values);
-          otherValues = cleared (i .defs) (t .otherValues);
+          values = columnForgotten (i .defs) (t .values);
+          otherValues = columnForgotten (i .defs) (t .otherValues);
           paired = t .paired;
         }) s
 

@@ -1,14 +1,7 @@
 -- The words of two codes that agree, one at least as long as the other.
 -- Assumes nothing.
-use mathlib.Core.Path.{_≡_, refl}
-use mathlib.Core.Bool.{Bool, true, false}
-use mathlib.Core.List.{List}
-use Prim.Native.Nat.{ℕ, _+_, _-_, _≤_, _<_}
-use native.Mathlib.Omega.{arith}
-use lib.Dec.{leb}
-use lib.ListN.{length, drop, getD, length-drop}
-use lib.Seq.{getD-drop}
-use borrow.Author.Tests.{le-ltb, leb-true, leb-false}
+use Rattle.base.proofs.Prelude.{refl, _≡_, false, true, Bool, List, _≤_, ℕ, _+_, _<_, _-_, arith, leb, length, getD, drop, length-drop, getD-drop}
+use Rattle.base.proofs.Prelude.{le-ltb, leb-true, leb-false}
 use Rattle.base.specs.declared.word.Word.the-variants.{Found, Missing}
 use Rattle.base.specs.Words.{wordFrom, firstWord, littleEndian}
 use Rattle.invariants.proofs.WordLaws.{found-inside}

@@ -1,11 +1,6 @@
 -- Where a turn leads: never back, past a return, and at its end to the record's last instruction end.
 -- Assumes nothing.
-use mathlib.Core.Path.{_≡_, refl, sym, ap, _∙_}
-use mathlib.Core.Bool.{Bool, true, false}
-use mathlib.Core.Logic.{inl, inr}
-use Prim.Native.Nat.{ℕ, _+_, _≤_}
-use native.Mathlib.Omega.{arith}
-use lib.Dec.{ltb}
+use Rattle.base.proofs.Prelude.{_∙_, sym, refl, _≡_, ap, true, false, Bool, inr, inl, _≤_, ℕ, _+_, arith, ltb}
 use Rattle.base.specs.Choice.{pick}
 use Rattle.arm.specs.Ins.{decodeOf}
 use Rattle.base.specs.declared.word.Word.{Word}
@@ -22,7 +17,7 @@ use Rattle.walk.specs.declared.Answer.the-variants.{Going, Accepted, Refused}
 use Rattle.walk.specs.declared.Options.{Options}
 use Rattle.walk.specs.declared.Record.{Record}
 use Rattle.walk.specs.declared.Walk.{Walk}
-use Rattle.walk.specs.IntoFunction.{endOf, intoFunction}
+use Rattle.walk.specs.IntoFunction.{endAddress, intoFunction}
 use Rattle.invariants.proofs.BlockLaws.{never-on}
 use Rattle.invariants.proofs.ClassLaws.{entry-no-return}
 use Rattle.invariants.proofs.MoveLaws.{EndsAt, goes-next, goes-past, ends-at}
@@ -52,7 +47,7 @@ lastOf (Refused n a r) = 0
 record-last : (o : Options) (start last lastPool firstPool : ℕ) (r : Record) → intoFunction o start last lastPool firstPool ≡ Accepted r
     → last ≡ r .«last_instruction_end»
 unfolding intoFunction
-record-last o start last lastPool firstPool r e = step (ltb (o .«module_end») (endOf (o .«known_end») last lastPool)) _ refl e
+record-last o start last lastPool firstPool r e = step (ltb (o .«module_end») (endAddress (o .«known_end») last lastPool)) _ refl e
   where
     step : (b : Bool) (x : Answer) → last ≡ lastOf x → pick b (Refused 14 0 0) x ≡ Accepted r → last ≡ r .«last_instruction_end»
     step true x f h = absurd (no-record h tt)

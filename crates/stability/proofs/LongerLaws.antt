@@ -1,13 +1,6 @@
 -- What passed the refusals 1 to 4 on a code passes them on a longer one.
 -- Assumes nothing.
-use mathlib.Core.Path.{_≡_, refl, ap, _∙_}
-use mathlib.Core.Bool.{Bool, true}
-use mathlib.Core.List.{List, [], _∷_}
-use Prim.Native.Nat.{ℕ, _+_, _≤_}
-use native.Mathlib.Omega.{arith}
-use lib.Dec.{leb}
-use lib.ListN.{length}
-use borrow.Author.Tests.{leb-true, le-leb}
+use Rattle.base.proofs.Prelude.{_∙_, refl, _≡_, ap, true, Bool, List, [], _∷_, _≤_, ℕ, _+_, arith, leb, length, le-leb, leb-true}
 use Rattle.base.specs.Choice.{both}
 use Rattle.context.specs.Lists.{Lists, lists}
 use Rattle.rows.specs.Map.{keyOf}

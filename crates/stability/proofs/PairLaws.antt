@@ -1,12 +1,7 @@
 -- The pools of two walks: the same addresses and marks, and for value, in each, the word at the address in that walk's own code.
 -- Assumes nothing.
-use mathlib.Core.Path.{_≡_, refl, ap, fun-ext}
-use mathlib.Core.Bool.{Bool, true, false, false≢true}
-use mathlib.Core.List.{List, [], _∷_, map}
-use Prim.Native.Nat.{ℕ, suc}
-use borrow.Author.Tests.{eqb-true}
-use lib.Dec.{ltb, eqb}
-use lib.ListN.{length, getD}
+use Rattle.base.proofs.Prelude.{refl, _≡_, ap, true, false, Bool, false≢true, List, [], _∷_, map, ℕ, suc, eqb, ltb, length, getD, eqb-true}
+use mathlib.Core.Path.{fun-ext}
 use Rattle.base.specs.declared.word.Word.the-variants.{Found}
 use Rattle.base.specs.Choice.{pick}
 use Rattle.base.specs.Words.{wordFrom}

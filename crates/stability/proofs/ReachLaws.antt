@@ -1,18 +1,11 @@
 -- A run that answers with a record comes to it: every check on the way has passed, and no turn was refused.
 -- Assumes nothing.
-use mathlib.Core.Path.{_≡_, refl}
-use mathlib.Core.Bool.{Bool, true, false}
-use mathlib.Core.List.{List, [], _∷_}
-use Prim.Native.Nat.{ℕ, _≤_}
-use native.Mathlib.Omega.{arith}
-use lib.Dec.{eqb}
-use lib.ListN.{length}
-use borrow.Author.Tests.{eqb-true, eq-eqb}
+use Rattle.base.proofs.Prelude.{refl, _≡_, true, false, Bool, List, [], _∷_, _≤_, ℕ, arith, eqb, length, eq-eqb, eqb-true}
 use Rattle.base.specs.Choice.{pick}
 use Rattle.base.specs.Refusals.{notDone}
 use Rattle.context.specs.Lists.{Lists, mapsIn, written, zeroed, givenBy}
 use Rattle.context.specs.Turn.{noMaps, countsOf}
-use Rattle.stepper.specs.Calls.{After, isGoing, refused, begin, turned, unchanged, numberAt, step, finish}
+use Rattle.stepper.specs.Stepper.{After, isGoing, refused, begin, turned, unchanged, numberAt, step, finish}
 use Rattle.validity.specs.Validity.{beginNumber}
 use Rattle.walk.specs.declared.Answer.{Answer}
 use Rattle.walk.specs.declared.Answer.the-variants.{Going, Accepted, Refused}

@@ -1,11 +1,7 @@
 -- The pools' slices of two runs: what the theorem compares of them, from the maps that they hold.
 -- Assumes nothing.
-use mathlib.Core.Path.{_≡_, refl, sym, ap, _∙_, subst}
-use mathlib.Core.List.{List, [], _++_}
-use Prim.Native.Nat.{ℕ, zero, suc, _+_, _*_, _-_, _≤_, _<_}
-use native.Mathlib.Nat.{not-suc-le-zero, le-of-suc-le-suc}
-use native.Mathlib.Omega.{arith}
-use lib.ListN.{length, getD, replicate}
+use Rattle.base.proofs.Prelude.{_∙_, sym, refl, _≡_, ap, subst, List, [], _++_, _≤_, ℕ, _+_, _<_, _-_, suc, _*_, zero, arith, le-of-suc-le-suc}
+use Rattle.base.proofs.Prelude.{not-suc-le-zero, length, getD, replicate}
 use lib.Seq.{getD-append-add}
 use Rattle.context.specs.Context.{poolRow}
 use Rattle.rows.specs.Rows.{padded}

@@ -1,14 +1,9 @@
 -- Demand 3: from one turn to runs.
 -- Assumes nothing.
-use mathlib.Core.Path.{_≡_, refl, sym, _∙_}
-use mathlib.Core.Bool.{true, false}
-use mathlib.Core.List.{List, [], _∷_}
-use Prim.Native.Nat.{ℕ, _+_, _≤_}
-use native.Mathlib.Omega.{arith}
-use lib.ListN.{length}
+use Rattle.base.proofs.Prelude.{_∙_, sym, refl, _≡_, true, false, List, [], _∷_, _≤_, ℕ, _+_, arith, length}
 use Rattle.context.specs.Lists.{Lists, mapsIn, written, zeroed, placesOf, givenBy}
 use Rattle.context.specs.Turn.{noMaps, countsOf}
-use Rattle.stepper.specs.Calls.{After, isGoing, begin, turned, unchanged, step, finish}
+use Rattle.stepper.specs.Stepper.{After, isGoing, begin, turned, unchanged, step, finish}
 use Rattle.walk.specs.declared.Answer.{Answer}
 use Rattle.walk.specs.declared.Answer.the-variants.{Going}
 use Rattle.walk.specs.declared.Counts.{Counts}

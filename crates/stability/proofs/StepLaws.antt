@@ -1,13 +1,6 @@
 -- One turn that passed the checks, on two codes: the same, but for the values of pools and in registers.
 -- Assumes nothing.
-use mathlib.Core.Path.{_≡_, refl, ap}
-use mathlib.Core.Bool.{true}
-use mathlib.Core.List.{List, [], _∷_}
-use Prim.Native.Nat.{ℕ, _+_, _-_, _≤_}
-use native.Mathlib.Omega.{arith}
-use lib.Dec.{leb}
-use lib.ListN.{length}
-use borrow.Author.Tests.{leb-true}
+use Rattle.base.proofs.Prelude.{refl, _≡_, ap, true, List, [], _∷_, _≤_, ℕ, _+_, _-_, arith, leb, length, leb-true}
 use Rattle.arm.specs.Ins.{decodeOf}
 use Rattle.base.specs.declared.word.Word.{Word}
 use Rattle.base.specs.declared.word.Word.the-variants.{Found, Missing}

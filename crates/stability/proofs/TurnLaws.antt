@@ -1,13 +1,6 @@
 -- One turn of the walk on two codes.
 -- Assumes nothing.
-use mathlib.Core.Path.{_≡_, refl}
-use mathlib.Core.Bool.{Bool, true, false}
-use mathlib.Core.List.{List, []}
-use mathlib.Core.Option.{Option, none, some}
-use Prim.Native.Nat.{ℕ, _+_, _-_, _≤_, _<_}
-use native.Mathlib.Omega.{arith}
-use lib.Dec.{ltb}
-use lib.ListN.{length}
+use Rattle.base.proofs.Prelude.{refl, _≡_, true, false, Bool, List, [], some, none, Option, _≤_, ℕ, _+_, _<_, _-_, arith, ltb, length}
 use Rattle.arm.specs.declared.Ins.{Ins}
 use Rattle.arm.specs.Ins.{decodeOf}
 use Rattle.base.specs.declared.word.Word.{Word}
@@ -15,7 +8,7 @@ use Rattle.base.specs.declared.word.Word.the-variants.{Found, Missing}
 use Rattle.base.specs.Choice.{pick}
 use Rattle.base.specs.Refusals.{poolOutside, beyond32Bits, noEpilogue}
 use Rattle.base.specs.Words.{wordFrom}
-use Rattle.context.specs.Blocks.{endOf, inlineTableAt, skipsTo, skipPool, skipInlineTable, jumpTable, illegalCode, branchOutside, markPool}
+use Rattle.context.specs.Blocks.{tableEndAt, inlineTableAt, skipsTo, skipPool, skipInlineTable, jumpTable, illegalCode, branchOutside, markPool}
 use Rattle.context.specs.Blocks.{forgetWritten, inConditionalBlock, entryAfterBranch, branch, poolLoad, inlineTable, functionCall, checkDefined}
 use Rattle.context.specs.Blocks.{fromReturn, toReturn, handleInsInner, passed, handleIns}
 use Rattle.context.specs.Context.{Maps, Given, Context, Step, on, goes, refuses, _▸_, goingTo, withProgress, moving, poolsTo}
@@ -98,7 +91,7 @@ module _ (g : Given) (c d : List ℕ) (longer : length c ≤ length d) (a : ℕ)
         step : (table : Option (List ℕ)) → inlineTableAt (x .progress .address) (x .maps .«inline_tables») ≡ table
             → Alike g c d a (asCode (skipsTo table (first g c d a t x))) (asCode (skipsTo table (second g c d a t x)))
         step none f = as-code (behind (record { pools = rw (s .at) at e; tables = rw (s .at) at f })) x t s
-        step (some table) f = skips (ltb (endOf table) 0x1_0000_0000) (endOf table)
+        step (some table) f = skips (ltb (tableEndAt table) 0x1_0000_0000) (tableEndAt table)
 
     inner-alike : Alike g c d a (handleInsInner i word size (first g c d a t x)) (handleInsInner i word size (second g c d a t x))
     unfolding handleInsInner toReturn skipPool

@@ -9,7 +9,7 @@ use Rattle.base.specs.declared.word.Word.the-variants.{Found}
 use Rattle.base.specs.Words.{wordFrom}
 use Rattle.context.specs.Context.{poolRow}
 use Rattle.context.specs.Lists.{Lists}
-use Rattle.stepper.specs.Calls.{After, begin, step, finish}
+use Rattle.stepper.specs.Stepper.{After, begin, step, finish}
 use Rattle.walk.specs.declared.Answer.the-variants.{Accepted}
 use Rattle.walk.specs.declared.Counts.{Counts}
 use Rattle.walk.specs.declared.Options.{Options}

@@ -1,9 +1,6 @@
 -- What a call leaves: after a turn of the loop, and where it was refused.
 -- Assumes nothing.
-use mathlib.Core.Path.{_≡_, ap}
-use mathlib.Core.List.{List}
-use Prim.Native.Nat.{ℕ, _+_, _≤_}
-use lib.ListN.{length}
+use Rattle.base.proofs.Prelude.{_≡_, ap, List, _≤_, ℕ, _+_, length}
 use Rattle.context.specs.Lists.{Lists, AllHeld}
 use Rattle.context.specs.Turn.{Turned}
 use Rattle.rows.specs.Map.{Held}
@@ -13,7 +10,7 @@ use Rattle.validity.specs.Validity.{high, stepNumber}
 use Rattle.validity.proofs.Laws.{number-passed, window-fits}
 use Rattle.walk.specs.declared.Options.{Options}
 use Rattle.walk.specs.declared.Walk.{Walk}
-use Rattle.stepper.specs.Calls.{Called, turned}
+use Rattle.stepper.specs.Stepper.{Called, turned}
 
 pub called-turned : {r : Walk} {before after : Lists} {t : Turned} → Turns r before after t
     → Called (record { walk = r; answer = r .result }) after (turned before t)

@@ -9,7 +9,7 @@ use walk::Walk;
 use walk::into_function::new;
 ghost use mathlib.Core.Path.{_≡_};
 ghost use Rattle.context.specs.Lists.{lists, zeroed};
-ghost use Rattle.stepper.specs.Calls.{Called, isGoing, refused, begin, step, finish};
+ghost use Rattle.stepper.specs.Stepper.{Called, isGoing, refused, begin, step, finish};
 
 // What a call answers, with the walk that it leaves.
 pub struct Answered {

@@ -1,16 +1,7 @@
 -- What the blocks about tables come to, from what their calls hand back.
 -- Assumes nothing.
-use mathlib.Core.Path.{_≡_, refl, sym, _∙_}
-use mathlib.Core.Bool.{Bool, true, false}
-use mathlib.Core.List.{List, [], _∷_}
-use mathlib.Core.Option.{none, some}
-use Prim.Native.Nat.{ℕ, _+_, _-_, _<_, _≤_}
-use native.Mathlib.Omega.{arith}
-use borrow.Author.Tests.{ltb-true, ltb-false, lt-ltb, le-ltb, eq-eqb, ne-eqb}
-use native.Mathlib.Numerals.{add-one}
-use lib.Dec.{ltb, eqb}
-use lib.ListN.{length, getD, drop, drop-of-length-le}
-use lib.Seq.{drop-cons}
+use Rattle.base.proofs.Prelude.{_∙_, sym, refl, _≡_, false, true, Bool, List, [], _∷_, some, none, _≤_, ℕ, _+_, _<_, _-_, arith, add-one, eqb, ltb}
+use Rattle.base.proofs.Prelude.{length, getD, drop, drop-of-length-le, drop-cons, eq-eqb, ne-eqb, lt-ltb, le-ltb, ltb-true, ltb-false}
 use Rattle.arm.specs.declared.Ins.{Ins}
 use Rattle.analysis.specs.declared.inline_table.InlineTable.{InlineTable}
 use Rattle.analysis.specs.declared.inline_table.InlineTableState.{InlineTableState}

@@ -1,12 +1,6 @@
 -- Each number of the census is the count that it stands for, and all of them add up to the 2^32 words.
-use Prim.Native.Nat.{ℕ, zero, suc, _+_, _*_, _/_, _%_, _<_, _^_}
-use mathlib.Core.Bool.{Bool, true, false, not}
-use mathlib.Core.List.{List, [], _∷_}
-use mathlib.Core.Path.{_≡_, refl, sym, ap, _∙_, subst}
-use native.Mathlib.Omega.{arith}
-use borrow.Author.Tests.{eq-eqb}
-use lib.Dec.{T, eqb, eqb→eq}
-use lib.ListN.{length, getD}
+use Rattle.base.proofs.Prelude.{_∙_, sym, refl, _≡_, ap, subst, false, true, Bool, not, List, [], _∷_, ℕ, _+_, _<_, suc, _*_, zero, _^_, _/_, _%_}
+use Rattle.base.proofs.Prelude.{arith, eqb, T, eqb→eq, length, getD, eq-eqb}
 use Rattle.classes.specs.declared.Class.{Class}
 use Rattle.classes.specs.Class.{classNo, is}
 use Rattle.classes.specs.declared.Class.the-variants.{Illegal}

@@ -1,8 +1,5 @@
 -- Laws of counting: by parts, by equal tests, and where a test looks at one part of the number.
-use Prim.Native.Nat.{ℕ, zero, suc, _+_, _*_, _<_}
-use mathlib.Core.Bool.{Bool}
-use mathlib.Core.Path.{_≡_, refl, ap, _∙_}
-use native.Mathlib.Omega.{arith}
+use Rattle.base.proofs.Prelude.{_∙_, refl, _≡_, ap, Bool, ℕ, _+_, _<_, suc, _*_, zero, arith}
 use native.Mathlib.Nat.{add-assoc}
 use Rattle.tally.specs.Counting.{one, howMany}
 

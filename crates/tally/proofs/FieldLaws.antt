@@ -1,9 +1,5 @@
 -- The fields that settle a word's class: whether its condition is 1111, bits 27 to 20 (op), 19 to 16 (rn), 12 (odd) and 11 to 0 (y).
-use Prim.Native.Nat.{ℕ, _+_, _*_, _/_, _%_}
-use mathlib.Core.Bool.{Bool, true, false}
-use mathlib.Core.Path.{_≡_, refl, ap, _∙_}
-use native.Mathlib.Omega.{arith}
-use lib.Dec.{eqb}
+use Rattle.base.proofs.Prelude.{_∙_, refl, _≡_, ap, true, false, Bool, ℕ, _+_, _*_, _/_, _%_, arith, eqb}
 use Rattle.classes.specs.declared.Class.{Class}
 use Rattle.classes.specs.declared.Class.the-variants.{Mov, Stm, Ldm, Str, Ldr, Push, Pop}
 use Rattle.classes.specs.declared.Op2.{Op2}

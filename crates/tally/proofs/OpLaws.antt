@@ -1,10 +1,6 @@
 -- How many words of one class there are with given bits 27 to 20, which is op, under condition 1111 (nv = 1) or another (nv = 0).
-use Prim.Native.Nat.{ℕ, _+_, _*_, _/_, _%_, _<_}
-use mathlib.Core.Bool.{Bool, true, false, not}
-use mathlib.Core.Path.{_≡_, refl, sym, ap, _∙_, subst}
-use native.Mathlib.Omega.{arith}
-use borrow.Author.Tests.{eq-eqb, ne-eqb}
-use lib.Dec.{T, eqb, eqb→eq}
+use Rattle.base.proofs.Prelude.{_∙_, sym, refl, _≡_, ap, subst, false, true, Bool, not, ℕ, _+_, _<_, _*_, _/_, _%_, arith, eqb, T, eqb→eq, eq-eqb}
+use Rattle.base.proofs.Prelude.{ne-eqb}
 use Rattle.classes.specs.declared.Class.{Class}
 use Rattle.classes.specs.declared.Class.the-variants.{Mov, Stm, Ldm, Str, Ldr, Push, Pop}
 use Rattle.classes.specs.Class.{classNo, is}

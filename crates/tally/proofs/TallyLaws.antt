@@ -1,12 +1,6 @@
 -- Counts of all classes at once: a list with a place for each class's number, to which words are added class by class.
-use Prim.Native.Nat.{ℕ, zero, suc, _+_, _*_, _<_}
-use mathlib.Core.Bool.{Bool, true, false}
-use mathlib.Core.List.{List, [], _∷_}
-use mathlib.Core.Path.{_≡_, refl, sym, ap, _∙_, subst}
-use native.Mathlib.Omega.{arith}
-use borrow.Author.Tests.{eq-eqb}
-use lib.Dec.{T, eqb, eqb→eq}
-use lib.ListN.{length, getD, set, length-set}
+use Rattle.base.proofs.Prelude.{_∙_, sym, refl, _≡_, ap, subst, false, true, Bool, List, [], _∷_, ℕ, _+_, _<_, suc, _*_, zero, arith, eqb, T, eqb→eq}
+use Rattle.base.proofs.Prelude.{length, getD, length-set, set, eq-eqb}
 use lib.Seq.{getD-set-same, getD-set-other}
 use Rattle.classes.specs.declared.Class.{Class}
 use Rattle.classes.specs.Class.{classNo, is}

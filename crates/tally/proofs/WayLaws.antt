@@ -1,11 +1,7 @@
 -- How the words with each op are counted, and all of them together.
-use Prim.Native.Nat.{ℕ, zero, suc, _+_, _*_, _/_, _%_, _<_, _≤_}
-use mathlib.Core.Bool.{Bool, true, false}
-use mathlib.Core.List.{List, [], _∷_}
-use mathlib.Core.Path.{_≡_, refl, sym, ap, _∙_, subst}
-use native.Mathlib.Omega.{arith}
-use lib.Dec.{T, eqb, eqb→eq}
-use lib.ListN.{length, getD, replicate, length-replicate, getD-replicate}
+use Rattle.base.proofs.Prelude.{_∙_, sym, refl, _≡_, ap, subst, false, true, Bool, List, [], _∷_, _≤_, ℕ, _+_, _<_, suc, _*_, zero, _/_, _%_, arith}
+use Rattle.base.proofs.Prelude.{eqb, T, eqb→eq, length, getD, replicate, length-replicate}
+use lib.ListN.{getD-replicate}
 use Rattle.classes.specs.declared.Class.{Class}
 use Rattle.classes.specs.declared.Class.the-variants.{Stm, Ldm, Str, Ldr, Push, Pop}
 use Rattle.classes.specs.Class.{classNo, is}

@@ -1,4 +1,5 @@
 -- The census: the counts of each class, in document 01's order.
+-- Assumes nothing.
 use Prim.Native.Nat.{ℕ, _+_}
 use mathlib.Core.Path.{_≡_}
 use lib.ListN.{getD}

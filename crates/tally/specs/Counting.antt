@@ -1,4 +1,5 @@
 -- How many of the 2^32 words a class has, under the conditions 1110 and 1111 and under the others.
+-- Assumes nothing.
 use Prim.Native.Nat.{ℕ, zero, suc, _+_, _/_, _^_}
 use mathlib.Core.Bool.{Bool, true, false, not}
 use Rattle.base.specs.Choice.{both}

@@ -1,14 +1,8 @@
 -- The laws of `decimal`.
 -- Assumes nothing.
-use mathlib.Core.Path.{_≡_, refl, _∙_, subst}
-use mathlib.Core.Bool.{Bool, true, false}
-use mathlib.Core.List.{List, [], _∷_}
-use Prim.Native.Nat.{ℕ, zero, suc, _+_, _-_, _/_, _%_, _^_, _≤_, _<_, zero-le}
-use native.Mathlib.Nat.{add-zero, add-suc, one-mul, one-le-pow, zero-lt-suc, lt-of-not-le, lt-of-lt-of-le, pow-le-pow-right, pow-succ', div-eq-of-lt, div-lt-iff-lt-mul, le-div-iff-mul-le, mod-eq-of-lt}
-use native.Mathlib.Omega.{arith}
-use lib.Dec.{eqb}
-use lib.ListN.{length}
-use borrow.Author.Tests.{lt-ltb, ne-eqb}
+use Rattle.base.proofs.Prelude.{_∙_, refl, _≡_, subst, false, true, Bool, List, [], _∷_, _≤_, ℕ, _+_, _<_, _-_, suc, zero, _^_, _/_, _%_, zero-le}
+use Rattle.base.proofs.Prelude.{arith, add-zero, eqb, length, ne-eqb, lt-ltb}
+use native.Mathlib.Nat.{add-suc, one-mul, one-le-pow, zero-lt-suc, lt-of-not-le, lt-of-lt-of-le, pow-le-pow-right, pow-succ', div-eq-of-lt, div-lt-iff-lt-mul, le-div-iff-mul-le, mod-eq-of-lt}
 use Rattle.text.specs.Hex.{hexDigit, digits}
 use Rattle.base.specs.Choice.{pick}
 use Rattle.text.specs.Decimal.{strip, decimal}

@@ -1,11 +1,7 @@
 -- The laws of `digits` and `hex`.
 -- Assumes nothing.
-use mathlib.Core.Path.{_≡_, refl, ap}
-use mathlib.Core.List.{List, [], _∷_}
-use Prim.Native.Nat.{ℕ, zero, suc, _+_, _/_, _%_, _^_, _≤_}
+use Rattle.base.proofs.Prelude.{refl, _≡_, ap, List, [], _∷_, _≤_, ℕ, _+_, suc, zero, _^_, _/_, _%_, add-one, length, set}
 use native.Mathlib.Nat.{div-div-eq-div-mul, pow-suc}
-use native.Mathlib.Numerals.{add-one}
-use lib.ListN.{length, set}
 use Rattle.text.specs.Put.{put}
 use Rattle.text.specs.Hex.{hexDigit, digits, hex}
 use Rattle.text.proofs.Put.{put-cons}

@@ -1,14 +1,12 @@
 -- The laws of `put` and `Written`. Two pieces, one after the other, are one: `put-put` and `written-then`.
 -- Most ask only that the first piece starts within the buffer.
 -- Assumes nothing.
-use mathlib.Core.Path.{_≡_, refl, sym, ap, _∙_, subst}
-use mathlib.Core.List.{List, [], _∷_, _++_, append-assoc}
-use Prim.Native.Nat.{ℕ, _+_, _-_, _≤_, _<_, zero-le}
-use native.Mathlib.Nat.{zero-add, add-zero, add-assoc}
-use native.Mathlib.Numerals.{add-one}
-use native.Mathlib.Omega.{arith}
-use lib.ListN.{length, take, drop, getD, set, length-append, length-take, length-drop, take-append-drop, List·getD-append}
-use lib.Seq.{length-take-le, take-at, drop-at, drop-drop, take-take, take-suc, take-append-le, set-split, getD-take, getD-drop}
+use Rattle.base.proofs.Prelude.{_∙_, sym, refl, _≡_, ap, subst, List, [], _∷_, _++_, append-assoc, _≤_, ℕ, _+_, _<_, _-_, zero-le, arith, add-zero}
+use Rattle.base.proofs.Prelude.{add-one, length, getD, drop, take, length-drop, set, length-append, take-append-drop, length-take-le, drop-at}
+use Rattle.base.proofs.Prelude.{take-at, drop-drop, getD-drop, getD-take}
+use native.Mathlib.Nat.{zero-add, add-assoc}
+use lib.ListN.{length-take, List·getD-append}
+use lib.Seq.{take-take, take-suc, take-append-le, set-split}
 use Rattle.text.specs.Put.{put, Written}
 
 -- `put` as it is defined, for a proof in which it stays shut elsewhere

@@ -1,13 +1,8 @@
 -- What the code of a turn comes to: the walk after it, and the lists.
 -- Assumes nothing.
-use mathlib.Core.Path.{_≡_, refl, sym, ap, _∙_}
-use mathlib.Core.Bool.{Bool, true, false}
-use mathlib.Core.List.{List, []}
-use Prim.Native.Nat.{ℕ, _+_, _-_, _≤_, _<_, _^_}
-use native.Mathlib.Omega.{arith}
-use borrow.Author.Tests.{ltb-false}
-use lib.Dec.{ltb, lit<}
-use lib.ListN.{length, drop, length-drop, length-replicate}
+use Rattle.base.proofs.Prelude.{_∙_, sym, refl, _≡_, ap, false, true, Bool, List, [], _≤_, ℕ, _+_, _<_, _-_, _^_, arith, ltb, length, drop}
+use Rattle.base.proofs.Prelude.{length-drop, length-replicate, ltb-false}
+use lib.Dec.{lit<}
 use Rattle.arm.specs.Ins.{decodeOf}
 use Rattle.base.specs.declared.word.Word.the-variants.{Found, Missing}
 use Rattle.base.specs.Refusals.{noEpilogue}
@@ -30,7 +25,7 @@ use Rattle.walk.specs.declared.Counts.{Counts}
 use Rattle.walk.specs.declared.Options.{Options}
 use Rattle.walk.specs.declared.Walk.{Walk}
 use Rattle.walk.specs.IntoFunction.{intoFunction}
-use Rattle.outcome.specs.Outcome.{stateOf, walkIn, withCounts, refused, settles, isRefused}
+use Rattle.outcome.specs.Outcome.{stateOf, walkIn, withCounts, refusedWalk, settles, isRefused}
 use Rattle.outcome.proofs.Laws.{same-lists, zeros-encode}
 use Rattle.handle_ins.specs.Handles.{contextIn, Handles}
 use Rattle.turn.specs.Turning.{left, Looks, Turns}
@@ -73,7 +68,7 @@ module _ (o : Options) (code starts : List ℕ) (w : Walk) (before : Lists) wher
   })
 
   pub looks-missing : {x : Walk} → wordFrom code (o .base) (w .progress .address) ≡ Missing → AllHeld (w .counts) before
-      → x ≡ refused w (w .counts) noEpilogue 0 0 → Looks x before before (turn (givenBy o code starts before) w (mapsIn (w .counts) before))
+      → x ≡ refusedWalk w (w .counts) noEpilogue 0 0 → Looks x before before (turn (givenBy o code starts before) w (mapsIn (w .counts) before))
   unfolding turn
   looks-missing e h is = rw is (record { held = h; places = refl; says = rw e })
 

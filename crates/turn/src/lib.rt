@@ -6,7 +6,7 @@ use handle_ins::handle_ins;
 use outcome::clear_all;
 use outcome::is_refused;
 use outcome::no_counts;
-use outcome::refused;
+use outcome::refused_walk;
 use outcome::settle;
 use outcome::state_of;
 use outcome::with_counts;
@@ -59,7 +59,7 @@ fn look(
         }
         Word::Missing => {
             let counts = w.counts;
-            refused(w, counts, NO_EPILOGUE, 0, 0)
+            refused_walk(w, counts, NO_EPILOGUE, 0, 0)
         }
     }
 }

@@ -1,12 +1,6 @@
 -- What a turn comes to where it is told of the calls, for all records that tell so.
 -- Assumes nothing.
-use mathlib.Core.Path.{_≡_, refl, sym, ap, subst, _∙_}
-use mathlib.Core.Bool.{Bool, true, false}
-use mathlib.Core.List.{List, [], _∷_}
-use Prim.Native.Nat.{ℕ, _+_}
-use native.Mathlib.Omega.{arith}
-use borrow.Author.Tests.{eq-eqb}
-use lib.ListN.{length, replicate}
+use Rattle.base.proofs.Prelude.{_∙_, sym, refl, _≡_, ap, subst, true, false, Bool, List, [], _∷_, ℕ, _+_, arith, length, replicate, eq-eqb}
 use Rattle.arm.specs.declared.Ins.{Ins}
 use Rattle.arm.specs.Ins.{decodeOf}
 use Rattle.base.specs.declared.word.Word.the-variants.{Found, Missing}
@@ -28,9 +22,9 @@ use Rattle.context.specs.Context.{callRow, poolRow}
 use Rattle.context.specs.Lists.{Lists, AllHeld, givenBy}
 use Rattle.context.specs.State.{Holds, PutsIf, passesAs, passes, headed}
 use Rattle.context.specs.Turn.{keyOr0, noMaps, countsOf}
-use Rattle.handle_ins.specs.Handles.{Handles, contextIn, worldOf, allIn, callsOf, callsAt, enteredAs, Stores}
+use Rattle.handle_ins.specs.Handles.{Handles, contextIn, worldOf, allIn, callsOf, callsAt, withEntry, Stores}
 use Rattle.handle_ins.proofs.Laws.{stores-none, handles-ins}
-use Rattle.outcome.specs.Outcome.{stateOf, withCounts, refused, settles, isRefused}
+use Rattle.outcome.specs.Outcome.{stateOf, withCounts, refusedWalk, settles, isRefused}
 use Rattle.outcome.proofs.Laws.{all-zeroed}
 use Rattle.registers.specs.declared.Registers.{Registers}
 use Rattle.rows.specs.declared.Entered.{Entered}
@@ -75,7 +69,7 @@ calls-held t e = in-order-held (omega arith) (sym (t .ordered) ∙ e)
 
 -- one that puts no call
 pub stores-nothing : (calls : List ℕ) (r : Stepped) {n count : ℕ} → r .state .call ≡ Nothing → count ≡ n → Held callRow n calls
-    → Stores n calls calls r (enteredAs (record { full = false; count = count }) r)
+    → Stores n calls calls r (withEntry (record { full = false; count = count }) r)
 stores-nothing calls r {n} none is h = rw is (stores-none n calls r none h (rw none) refl)
 
 -- some calls of which one goes to the address, or none
@@ -93,7 +87,7 @@ module _ (o : Options) (code starts : List ℕ) (w : Walk) (told : Told) (before
     (puts : PutsIf (λ l. told .«is_called» ≡ isDestination (w .progress .address + 4) (l .calls)) (allIn o code starts (w .registers) before) (allIn o code starts (r .registers) after)
     (handleInsInner i word 4) (headed (w .progress .address + 4) (stateOf w)) (r .stepped)) where
   -- the pools are held whatever the calls are
-  pub look-pools : (e : Entered) {p x : Stepped} → p ≡ enteredAs e (r .stepped) → x ≡ passes i p → Held poolRow (x .state .counts .pools) (after .pools)
+  pub look-pools : (e : Entered) {p x : Stepped} → p ≡ withEntry e (r .stepped) → x ≡ passes i p → Held poolRow (x .state .counts .pools) (after .pools)
   look-pools e {p} entered passed = rw passed (step (p .then))
     where
       some : Held poolRow (p .state .counts .pools) (after .pools)
@@ -111,8 +105,8 @@ module _ (o : Options) (code starts : List ℕ) (w : Walk) (told : Told) (before
   pub look-found : (e : Entry) {p x : Stepped} {walk : Walk} → told .«is_ordered» ≡ true → wordFrom code (o .base) (w .progress .address) ≡ Found word
       → i ≡ decodeOf word (w .progress .address)
       → ((calls : List Call) (n : ℕ) → Tells calls n (r .stepped .state .progress .address) told → Held callRow n (numbersOf calls)
-      → Stores n (numbersOf calls) (numbersOf (edited (e .edit) calls)) (r .stepped) (enteredAs (e .entered) (r .stepped)))
-      → p ≡ enteredAs (e .entered) (r .stepped) → x ≡ passes i p
+      → Stores n (numbersOf calls) (numbersOf (edited (e .edit) calls)) (r .stepped) (withEntry (e .entered) (r .stepped)))
+      → p ≡ withEntry (e .entered) (r .stepped) → x ≡ passes i p
       → walk ≡ settles o w (keyOr0 (firstKey (mapIn poolRow (x .state .counts .pools) (after .pools)))) (x .then) (r .registers) (x .state)
       → Edits (e .edit) (TellsAt w told) before after (λ l m. Looks walk l m (turnIn o code starts w l))
   look-found e {p} {x} ordered found decoded stores entered passed settled = record {
@@ -132,7 +126,7 @@ module _ (o : Options) (code starts : List ℕ) (w : Walk) (told : Told) (before
   }
 
 pub look-missing : (o : Options) (code starts : List ℕ) (w : Walk) (told : Told) (before : Lists) {e : Edit} {walk : Walk} → OthersHeld (w .counts) before
-    → told .«is_ordered» ≡ true → wordFrom code (o .base) (w .progress .address) ≡ Missing → walk ≡ refused w (w .counts) noEpilogue 0 0 → e ≡ clearing 0
+    → told .«is_ordered» ≡ true → wordFrom code (o .base) (w .progress .address) ≡ Missing → walk ≡ refusedWalk w (w .counts) noEpilogue 0 0 → e ≡ clearing 0
     → Edits e (TellsAt w told) before before (λ l m. Looks walk l m (turnIn o code starts w l))
 look-missing o code starts w told before held ordered missing is clears =
     rw clears (unedited (λ calls t. looks-missing o code starts w (withCalls before calls) missing (all-held held (calls-held t ordered)) is))

@@ -19,12 +19,12 @@ use context::in_conditional_block;
 use context::is_on;
 use context::load_into;
 use context::pass;
-use handle_ins::entered;
+use handle_ins::with_entry;
 use handling::from_return;
 use handling::to_return;
 use outcome::is_refused;
 use outcome::no_counts;
-use outcome::refused;
+use outcome::refused_walk;
 use outcome::settle;
 use outcome::state_of;
 use outcome::with_counts;
@@ -43,7 +43,7 @@ ghost use Rattle.context.specs.Blocks.{isDestination, handleInsInner};
 ghost use Rattle.context.specs.Context.{callRow};
 ghost use Rattle.context.specs.State.{PutsIf, headed};
 ghost use Rattle.context.specs.Turn.{noMaps, countsOf};
-ghost use Rattle.handle_ins.specs.Handles.{allIn, enteredAs, Stores};
+ghost use Rattle.handle_ins.specs.Handles.{allIn, withEntry, Stores};
 ghost use Rattle.outcome.specs.Outcome.{stateOf, withCounts, isRefused};
 ghost use Rattle.rows.specs.Map.{Held};
 ghost use Rattle.turn.specs.Turning.{Looks, Turns};
@@ -59,7 +59,7 @@ pub struct Looked {
 }
 
 // The state before a step over an ARM instruction.
-fn opened(w: Walk) -> State
+fn state_at(w: Walk) -> State
     requires { ⌜ w .progress .address + 4 < 2 ^ 32 ⌝ }
     ensures { λ r. ⌜ r ≡ headed (w .progress .address + 4) (stateOf w) ⌝ }
 {
@@ -85,7 +85,7 @@ fn inner(
     ensures { λ r. ⌜ PutsIf (λ l. «is_called» ≡ isDestination (w .progress .address + 4) (l .calls)) (allIn o (now (code .entry)) (now (starts .entry)) (w .registers) (others (now (labels .entry)) (now (pools .entry)) (now («jump_tables» .entry)) (now («inline_tables» .entry)))) (allIn o (now (code .entry)) (now (starts .entry)) (r .registers) (others (now (labels .exit)) (now (pools .exit)) (now («jump_tables» .exit)) (now («inline_tables» .exit)))) (handleInsInner ins word 4) (headed (w .progress .address + 4) (stateOf w)) (r .stepped) ⌝ }
 {
     let held = w.registers;
-    let r = to_return(opened(w), held, ins, pools, jump_tables, inline_tables);
+    let r = to_return(state_at(w), held, ins, pools, jump_tables, inline_tables);
     if !is_on(r) {
         return Handled {
             stepped: r,
@@ -124,7 +124,7 @@ fn inner(
 
 // The step's call entered, where it has one.
 fn put_call(r: Stepped, told: Told) -> Entry
-    ensures { λ p. ⌜ ((calls : List Call) (n : ℕ) → Tells calls n (r .state .progress .address) told → Held callRow n (numbersOf calls) → Stores n (numbersOf calls) (numbersOf (edited (p .edit) calls)) r (enteredAs (p .entered) r)) ⌝ }
+    ensures { λ p. ⌜ ((calls : List Call) (n : ℕ) → Tells calls n (r .state .progress .address) told → Held callRow n (numbersOf calls) → Stores n (numbersOf calls) (numbersOf (edited (p .edit) calls)) r (withEntry (p .entered) r)) ⌝ }
 {
     let s = r.state;
     let p = s.progress;
@@ -189,7 +189,7 @@ fn look(
             let put = put_call(r, told);
             let e = put.entered;
             let edit = put.edit;
-            let stepped = pass(entered(r, e), ins);
+            let stepped = pass(with_entry(r, e), ins);
             Looked {
                 walk: settle(o, w, Handled { stepped, registers }, pools),
                 edit,
@@ -198,7 +198,7 @@ fn look(
         Word::Missing => {
             let counts = w.counts;
             Looked {
-                walk: refused(w, counts, NO_EPILOGUE, 0, 0),
+                walk: refused_walk(w, counts, NO_EPILOGUE, 0, 0),
                 edit: clear(0),
             }
         }

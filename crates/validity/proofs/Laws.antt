@@ -1,15 +1,8 @@
 -- The laws of the refusals 1 to 4: a test that is written with other numbers, a turn of each loop, and what a step that passed them has shown.
 -- Assumes nothing.
-use mathlib.Core.Path.{_≡_, refl, sym}
-use mathlib.Core.Bool.{Bool, true, false}
-use mathlib.Core.List.{List, []}
-use Prim.Native.Nat.{ℕ, _+_, _%_, _≤_, _<_}
-use native.Mathlib.Numerals.{add-one}
-use native.Mathlib.Omega.{arith}
-use borrow.Author.Tests.{leb-true, leb-false, le-leb, lt-leb, eqb-true, eq-eqb, ne-eqb}
-use lib.Dec.{leb, eqb, lit<}
-use lib.ListN.{length, drop, getD, drop-of-length-le}
-use lib.Seq.{drop-cons}
+use Rattle.base.proofs.Prelude.{sym, refl, _≡_, false, true, Bool, List, [], _≤_, ℕ, _+_, _<_, _%_, arith, add-one, eqb, leb, length, getD, drop}
+use Rattle.base.proofs.Prelude.{drop-of-length-le, drop-cons, eq-eqb, ne-eqb, le-leb, lt-leb, leb-true, eqb-true, leb-false}
+use lib.Dec.{lit<}
 use Rattle.base.specs.Choice.{pick, both}
 use Rattle.context.specs.Context.{labelRow, poolRow, tableRow, callRow}
 use Rattle.context.specs.Lists.{Lists, AllHeld, mapsIn}

@@ -1,12 +1,6 @@
 -- What the blocks about registers and pools come to, from what their calls hand back.
 -- Assumes nothing.
-use mathlib.Core.Path.{_≡_, refl, sym, ap, _∙_}
-use mathlib.Core.Bool.{Bool, true, false}
-use mathlib.Core.List.{List, [], _∷_}
-use Prim.Native.Nat.{ℕ, _*_, _<_}
-use native.Mathlib.Omega.{arith}
-use borrow.Author.Tests.{le-leb, ne-eqb}
-use lib.ListN.{length, getD}
+use Rattle.base.proofs.Prelude.{_∙_, sym, refl, _≡_, ap, false, true, Bool, List, [], _∷_, ℕ, _<_, _*_, arith, length, getD, ne-eqb, le-leb}
 use Rattle.arm.specs.declared.Ins.{Ins}
 use Rattle.base.specs.Choice.{pick}
 use Rattle.base.specs.Refusals.{listFull}

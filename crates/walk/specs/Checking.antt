@@ -1,4 +1,5 @@
 -- check_defs_uses: registers that an instruction reads must have been defined.
+-- Assumes nothing.
 use Prim.Native.Nat.{ℕ}
 use mathlib.Core.Bool.{Bool, not}
 use lib.Bits.{bitOr}

@@ -1,4 +1,5 @@
 -- functions.rs: `new`, `into_function`, and the start before a pool.
+-- Assumes nothing.
 use Prim.Native.Nat.{ℕ, _+_, max}
 use mathlib.Core.Bool.{false}
 use lib.Dec.{eqb, ltb}
@@ -36,9 +37,9 @@ begun start n = record {
 }
 
 -- the known end, or the larger of the last instruction's end and the last pool's
-abbrev pub endOf : KnownEnd → ℕ → ℕ → ℕ
-endOf (At end) last pool = end
-endOf Nothing last pool = pick (eqb pool 0) last (max last (pool + 4))
+abbrev pub endAddress : KnownEnd → ℕ → ℕ → ℕ
+endAddress (At end) last pool = end
+endAddress Nothing last pool = pick (eqb pool 0) last (max last (pool + 4))
 
 -- the first pool where that lies below the start
 unfoldable pub startOf : ℕ → ℕ → ℕ
@@ -51,4 +52,4 @@ recordTo moduleEnd start last pool end =
     (Accepted (record { start = startOf start pool; end = end; «first_instruction» = start; «last_instruction_end» = last }))
 
 unfoldable pub intoFunction : Options → ℕ → ℕ → ℕ → ℕ → Answer
-intoFunction o start last lastPool firstPool = recordTo (o .«module_end») start last firstPool (endOf (o .«known_end») last lastPool)
+intoFunction o start last lastPool firstPool = recordTo (o .«module_end») start last firstPool (endAddress (o .«known_end») last lastPool)

@@ -16,7 +16,7 @@ use predicates::Previous;
 use registers::Registers;
 ghost use mathlib.Core.Path.{_≡_};
 ghost use Prim.Native.Nat.{max};
-ghost use Rattle.walk.specs.IntoFunction.{begun, endOf, startOf, intoFunction};
+ghost use Rattle.walk.specs.IntoFunction.{begun, endAddress, startOf, intoFunction};
 
 // r0 to r3 may be arguments, r10 and r11 are not always saved, r12 is scratch; SP, LR and PC.
 const DEFINED: u16 = 0b1111_1100_0000_1111;
@@ -55,7 +55,7 @@ pub fn new(start: u32, counts: Counts) -> Walk
 
 // The known end, or the larger of the last instruction's end and the last pool's, which may leave 32 bits in a state that a host made up.
 fn end_address(known_end: KnownEnd, last_instruction_end: u32, last_pool_address: u32) -> u64
-    ensures { λ r. ⌜ r ≡ endOf «known_end» «last_instruction_end» «last_pool_address» ⌝ }
+    ensures { λ r. ⌜ r ≡ endAddress «known_end» «last_instruction_end» «last_pool_address» ⌝ }
 {
     match known_end {
         KnownEnd::At(end) => end as u64,

@@ -1,11 +1,6 @@
 -- A walk on the way to its result, turn by turn: what the loop keeps.
 -- Assumes nothing.
-use mathlib.Core.Path.{_≡_, refl, sym, ap, _∙_}
-use mathlib.Core.Bool.{Bool, true, false}
-use mathlib.Core.List.{List}
-use Prim.Native.Nat.{ℕ, suc, _-_, _^_, _≤_, _<_}
-use native.Mathlib.Omega.{arith}
-use lib.ListN.{length}
+use Rattle.base.proofs.Prelude.{_∙_, sym, refl, _≡_, ap, true, false, Bool, List, _≤_, ℕ, _<_, _-_, suc, _^_, arith, length}
 use Rattle.base.specs.Choice.{pick}
 use Rattle.context.specs.Context.{Given}
 use Rattle.context.specs.Lists.{Lists, AllHeld, mapsIn, placesOf, givenBy}
@@ -14,7 +9,7 @@ use Rattle.invariants.specs.Turns.{turnsFrom}
 use Rattle.invariants.proofs.EndingLaws.{one-more, stays, going-within}
 use Rattle.invariants.proofs.StepLaws.{same-given}
 use Rattle.invariants.proofs.TurnLaws.{turn-past}
-use Rattle.stepper.specs.Calls.{isGoing}
+use Rattle.stepper.specs.Stepper.{isGoing}
 use Rattle.turn.specs.Turning.{Turns}
 use Rattle.walk.specs.declared.Answer.{Answer}
 use Rattle.walk.specs.declared.Options.{Options}

@@ -1,13 +1,6 @@
 -- The whole walk by its turns: one more than the code has bytes, from no entries.
 -- Assumes nothing.
-use mathlib.Core.Path.{_≡_, refl, sym, ap, _∙_, subst⁻¹}
-use mathlib.Core.Bool.{Bool, true, false}
-use mathlib.Core.List.{List}
-use Prim.Native.Nat.{ℕ, suc, _+_, _≤_}
-use native.Mathlib.Omega.{arith}
-use borrow.Author.Tests.{eqb-true}
-use lib.Dec.{eqb}
-use lib.ListN.{length}
+use Rattle.base.proofs.Prelude.{_∙_, sym, refl, _≡_, ap, subst⁻¹, true, false, Bool, List, _≤_, ℕ, _+_, suc, arith, eqb, length, eqb-true}
 use Rattle.base.specs.Choice.{pick}
 use Rattle.context.specs.Lists.{Lists, AllHeld, written, zeroed, givenBy}
 use Rattle.context.specs.Turn.{Turned, noMaps, countsOf}
@@ -18,7 +11,7 @@ use Rattle.invariants.proofs.EndingLaws.{has-ended}
 use Rattle.invariants.proofs.StepLaws.{steps-turn}
 use Rattle.rows.specs.Map.{Held, mapIn}
 use Rattle.stepper.specs.declared.Answered.{Answered}
-use Rattle.stepper.specs.Calls.{After, Called, isGoing, refused, begin, turned, numberAt, finish}
+use Rattle.stepper.specs.Stepper.{After, Called, isGoing, refused, begin, turned, numberAt, finish}
 use Rattle.stepper.proofs.Laws.{called-turned, turn-may}
 use Rattle.turn.specs.Turning.{Turns}
 use Rattle.validity.specs.Validity.{high, beginNumber}

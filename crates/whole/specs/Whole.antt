@@ -6,7 +6,7 @@ use lib.ListN.{length}
 use Rattle.base.specs.Choice.{pick}
 use Rattle.context.specs.Lists.{Lists}
 use Rattle.invariants.specs.Turns.{stepsFrom}
-use Rattle.stepper.specs.Calls.{After, isGoing, begin, finish}
+use Rattle.stepper.specs.Stepper.{After, isGoing, begin, finish}
 use Rattle.walk.specs.declared.Counts.{Counts}
 use Rattle.walk.specs.declared.Options.{Options}
 

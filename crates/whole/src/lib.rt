@@ -11,7 +11,7 @@ ghost use lib.ListN.{length};
 ghost use Rattle.context.specs.Lists.{lists, AllHeld, mapsIn, givenBy};
 ghost use Rattle.invariants.specs.Turns.{turnsFrom};
 ghost use Rattle.rows.specs.Map.{Held};
-ghost use Rattle.stepper.specs.Calls.{Called};
+ghost use Rattle.stepper.specs.Stepper.{Called};
 ghost use Rattle.turn.specs.Turning.{Turns};
 ghost use Rattle.whole.specs.Whole.{run};
 

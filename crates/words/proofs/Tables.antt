@@ -1,15 +1,9 @@
 -- The rules of the two tables, each proved at every row by one test that is computed.
 -- Assumes nothing.
-use mathlib.Core.Path.{_≡_, refl, subst, sym}
-use mathlib.Core.Bool.{Bool, true, false}
-use mathlib.Core.List.{List, [], _∷_, _++_}
-use mathlib.Core.Logic.{⊎-elim}
-use Prim.Native.Nat.{ℕ, zero, suc, _+_, _*_, _-_, _≤_, _<_, zero-le}
+use Rattle.base.proofs.Prelude.{sym, refl, _≡_, subst, false, true, Bool, List, [], _∷_, _++_, ⊎-elim, _≤_, ℕ, _+_, _<_, _-_, suc, _*_, zero, zero-le}
+use Rattle.base.proofs.Prelude.{arith, le-of-suc-le-suc, eq-or-lt-of-le, eqb, leb, T, eqb→eq, length, getD, drop, take}
 use Prim.Native.String.{String}
-use native.Mathlib.Nat.{eq-or-lt-of-le, le-of-suc-le-suc}
-use native.Mathlib.Omega.{arith}
-use lib.Dec.{T, eqb, eqb→eq, leb, leb→le}
-use lib.ListN.{length, getD, take, drop}
+use lib.Dec.{leb→le}
 use Rattle.base.specs.Choice.{both}
 use Rattle.words.specs.Names.{bytes, entry, names, nameNo, conditions, condOf}
 

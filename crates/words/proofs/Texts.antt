@@ -1,15 +1,9 @@
 -- The laws of the lines and of the answer.
 -- Assumes nothing.
-use mathlib.Core.Path.{_≡_, refl, ap, _∙_, sym}
-use mathlib.Core.Bool.{Bool, true, false}
-use mathlib.Core.List.{List, [], _∷_, _++_}
-use Prim.Native.Nat.{ℕ, zero, suc, _+_, _*_, _/_, _%_, _^_, _≤_, _<_, zero-le}
+use Rattle.base.proofs.Prelude.{_∙_, sym, refl, _≡_, ap, false, true, Bool, List, [], _∷_, _++_, _≤_, ℕ, _+_, _<_, suc, _*_, zero, _^_, _/_, _%_}
+use Rattle.base.proofs.Prelude.{zero-le, arith, add-one, eqb, leb, length, length-append, eq-eqb, ne-eqb, le-leb, lt-leb, leb-true}
 use native.Mathlib.Nat.{lt-of-not-le}
-use native.Mathlib.Numerals.{add-one}
-use native.Mathlib.Omega.{arith}
-use lib.Dec.{eqb, leb}
-use lib.ListN.{length, length-append, List·getD-eq-default}
-use borrow.Author.Tests.{eq-eqb, ne-eqb, le-leb, lt-leb, leb-true}
+use lib.ListN.{List·getD-eq-default}
 use Rattle.base.specs.Choice.{pick}
 use Rattle.text.specs.Put.{put, Written}
 use Rattle.text.proofs.Hex.{hex-length}

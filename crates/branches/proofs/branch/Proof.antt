@@ -1,9 +1,6 @@
 -- `branches::branch` meets its contract.
-use mathlib.Core.Path.{sym, _∙_}
-use borrow.Author.Tests.{not-true, not-false}
-use denote.Ref.{now}
+use Rattle.base.proofs.Prelude.{_∙_, sym, needs, not-false, not-true, now}
 use Rattle.branches.proofs.BranchLaws.{at-branch, branch-not, branch-label, branch-end, branch-call}
-use borrow.Author.Needs.{needs}
 use Rattle.branches.proofs.branch.Statement.{statement}
 use Rattle.branches.proofs.branch.Tie as tie
 

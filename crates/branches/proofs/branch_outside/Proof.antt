@@ -1,7 +1,6 @@
 -- `branches::branch_outside` meets its contract.
-use mathlib.Core.Path.{refl}
+use Rattle.base.proofs.Prelude.{refl, needs}
 use Rattle.context.specs.Blocks.{branchOutside}
-use borrow.Author.Needs.{needs}
 use Rattle.branches.proofs.branch_outside.Statement.{statement}
 use Rattle.branches.proofs.branch_outside.Tie as tie
 

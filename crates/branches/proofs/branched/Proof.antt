@@ -1,5 +1,5 @@
 -- `branches::branched` meets its contract.
-use borrow.Author.Needs.{needs}
+use Rattle.base.proofs.Prelude.{needs}
 use Rattle.branches.proofs.branched.Statement.{statement}
 use Rattle.branches.proofs.branched.Tie as tie
 

@@ -1,7 +1,6 @@
 -- `branches::entry_after_branch` meets its contract.
-use mathlib.Core.Path.{refl}
+use Rattle.base.proofs.Prelude.{refl, needs}
 use Rattle.context.specs.Blocks.{entryAfterBranch}
-use borrow.Author.Needs.{needs}
 use Rattle.branches.proofs.entry_after_branch.Statement.{statement}
 use Rattle.branches.proofs.entry_after_branch.Tie as tie
 

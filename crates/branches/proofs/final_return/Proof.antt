@@ -1,12 +1,9 @@
 -- `branches::final_return` meets its contract.
-use mathlib.Core.Path.{refl}
-use borrow.Author.Tests.{not-true, not-false}
-use denote.Ref.{now}
+use Rattle.base.proofs.Prelude.{refl, needs, not-false, not-true, now}
 use Rattle.context.specs.Blocks.{finalReturn, isTailCall}
 use Rattle.context.specs.State.{codeIn, optionsIn}
 use Rattle.context.proofs.Laws.{settled}
 use Rattle.branches.proofs.BranchLaws.{long-branch, tail-call}
-use borrow.Author.Needs.{needs}
 use Rattle.branches.proofs.final_return.Statement.{statement}
 use Rattle.branches.proofs.final_return.Tie as tie
 

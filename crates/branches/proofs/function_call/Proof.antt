@@ -1,8 +1,7 @@
 -- `branches::function_call` meets its contract.
-use mathlib.Core.Path.{refl}
+use Rattle.base.proofs.Prelude.{refl, needs}
 use Rattle.context.specs.Blocks.{functionCall}
 use Rattle.context.proofs.Laws.{settled}
-use borrow.Author.Needs.{needs}
 use Rattle.branches.proofs.function_call.Statement.{statement}
 use Rattle.branches.proofs.function_call.Tie as tie
 

@@ -1,7 +1,5 @@
 -- `branches::is_entry_after_branch` meets its contract.
-use mathlib.Core.Path.{sym, _∙_}
-use borrow.Author.Tests.{le-ltb, lt-ltb, not-true, not-false}
-use borrow.Author.Needs.{needs}
+use Rattle.base.proofs.Prelude.{_∙_, sym, needs, lt-ltb, le-ltb, not-false, not-true}
 use Rattle.branches.proofs.is_entry_after_branch.Statement.{statement}
 use Rattle.branches.proofs.is_entry_after_branch.Tie as tie
 

@@ -1,6 +1,6 @@
 -- `branches::is_entry_at` meets its contract.
 use Rattle.context.specs.Blocks.{isEntryAt}
-use borrow.Author.Needs.{needs}
+use Rattle.base.proofs.Prelude.{needs}
 use Rattle.branches.proofs.is_entry_at.Statement.{statement}
 use Rattle.branches.proofs.is_entry_at.Tie as tie
 

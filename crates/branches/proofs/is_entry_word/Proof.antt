@@ -2,7 +2,7 @@
 use Rattle.branches.proofs.EntryLaws.{entry-block, entry-single}
 use Rattle.branches.proofs.is_entry_word.Statement.{statement}
 use Rattle.branches.proofs.is_entry_word.Tie as tie
-use native.Mathlib.Omega.{arith}
+use Rattle.base.proofs.Prelude.{arith}
 
 returns : tie.Need-returns
 returns c = λ a. entry-block (c .before .args .word) a (c .if1 .taken)

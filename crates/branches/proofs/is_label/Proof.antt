@@ -1,6 +1,5 @@
 -- `branches::is_label` meets its contract.
-use borrow.Author.Tests.{not-true, not-false}
-use borrow.Author.Needs.{needs}
+use Rattle.base.proofs.Prelude.{needs, not-false, not-true}
 use Rattle.branches.proofs.is_label.Statement.{statement}
 use Rattle.branches.proofs.is_label.Tie as tie
 

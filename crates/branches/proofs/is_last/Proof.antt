@@ -1,5 +1,5 @@
 -- `branches::is_last` meets its contract.
-use borrow.Author.Tests.{not-true, not-false}
+use Rattle.base.proofs.Prelude.{not-false, not-true}
 use Rattle.branches.proofs.is_last.Statement.{statement}
 use Rattle.branches.proofs.is_last.Tie as tie
 

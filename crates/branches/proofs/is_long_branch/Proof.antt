@@ -1,6 +1,5 @@
 -- `branches::is_long_branch` meets its contract.
-use borrow.Author.Tests.{le-ltb, lt-ltb}
-use borrow.Author.Needs.{needs}
+use Rattle.base.proofs.Prelude.{needs, le-ltb, lt-ltb}
 use Rattle.branches.proofs.is_long_branch.Statement.{statement}
 use Rattle.branches.proofs.is_long_branch.Tie as tie
 

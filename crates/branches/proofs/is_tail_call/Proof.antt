@@ -1,6 +1,5 @@
 -- `branches::is_tail_call` meets its contract.
-use borrow.Author.Tests.{le-ltb, lt-ltb}
-use borrow.Author.Needs.{needs}
+use Rattle.base.proofs.Prelude.{needs, le-ltb, lt-ltb}
 use Rattle.branches.proofs.is_tail_call.Statement.{statement}
 use Rattle.branches.proofs.is_tail_call.Tie as tie
 

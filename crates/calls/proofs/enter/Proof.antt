@@ -1,9 +1,8 @@
 -- `calls::enter` meets its contract.
 -- Assumes nothing.
-use mathlib.Core.Bool.{false}
+use Rattle.base.proofs.Prelude.{false, needs}
 use Rattle.calls.specs.Records.{none}
 use Rattle.calls.proofs.EditLaws.{rewritten-none, full-is, room-is}
-use borrow.Author.Needs.{needs}
 use Rattle.calls.proofs.enter.Statement.{statement}
 use Rattle.calls.proofs.enter.Tie as tie
 

@@ -1,8 +1,7 @@
 -- `calls::seen` meets its contract.
 -- Assumes nothing.
-use borrow.Author.Tests.{lt-ltb, le-ltb, le-leb, lt-leb}
+use Rattle.base.proofs.Prelude.{needs, lt-ltb, le-leb, le-ltb, lt-leb}
 use Rattle.calls.specs.Records.{seenBy}
-use borrow.Author.Needs.{needs}
 use Rattle.calls.proofs.seen.Statement.{statement}
 use Rattle.calls.proofs.seen.Tie as tie
 

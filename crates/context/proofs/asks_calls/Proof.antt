@@ -1,7 +1,6 @@
 -- `context::asks_calls` meets its contract.
 use Rattle.context.specs.State.{asksCalls}
-use borrow.Author.Tests.{not-true, not-false}
-use borrow.Author.Needs.{needs}
+use Rattle.base.proofs.Prelude.{needs, not-false, not-true}
 use Rattle.context.proofs.asks_calls.Statement.{statement}
 use Rattle.context.proofs.asks_calls.Tie as tie
 

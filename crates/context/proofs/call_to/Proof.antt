@@ -1,10 +1,9 @@
 -- `context::call_to` meets its contract.
-use mathlib.Core.Path.{ap, _∙_}
+use Rattle.base.proofs.Prelude.{_∙_, ap, needs}
 use Rattle.context.specs.declared.Then.the-variants.{On}
 use Rattle.context.specs.declared.State.{State}
 use Rattle.context.specs.declared.Stepped.{Stepped}
 use Rattle.context.proofs.Laws.{call-comes, onwards}
-use borrow.Author.Needs.{needs}
 use Rattle.context.proofs.call_to.Statement.{statement}
 use Rattle.context.proofs.call_to.Tie as tie
 

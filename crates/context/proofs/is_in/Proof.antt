@@ -1,5 +1,5 @@
 -- `context::is_in` meets its contract.
-use borrow.Author.Tests.{le-ltb, lt-ltb}
+use Rattle.base.proofs.Prelude.{le-ltb, lt-ltb}
 use Rattle.context.specs.Blocks.{isIn}
 use Rattle.context.proofs.is_in.Statement.{statement}
 use Rattle.context.proofs.is_in.Tie as tie

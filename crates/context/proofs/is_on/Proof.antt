@@ -1,5 +1,5 @@
 -- `context::is_on` meets its contract.
-use borrow.Author.Needs.{needs}
+use Rattle.base.proofs.Prelude.{needs}
 use Rattle.context.proofs.is_on.Statement.{statement}
 use Rattle.context.proofs.is_on.Tie as tie
 

@@ -1,6 +1,5 @@
 -- `context::load_into` meets its contract.
-use mathlib.Core.Path.{_∙_}
-use borrow.Author.Needs.{needs}
+use Rattle.base.proofs.Prelude.{_∙_, needs}
 use Rattle.context.proofs.load_into.Statement.{statement}
 use Rattle.context.proofs.load_into.Tie as tie
 

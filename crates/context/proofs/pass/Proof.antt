@@ -1,6 +1,5 @@
 -- `context::pass` meets its contract.
-use mathlib.Core.Path.{_≡_, refl, sym, ap, _∙_}
-use borrow.Author.Needs.{needs}
+use Rattle.base.proofs.Prelude.{_∙_, sym, refl, _≡_, ap, needs}
 use Rattle.context.proofs.pass.Statement.{statement}
 use Rattle.context.proofs.pass.Tie as tie
 

@@ -1,7 +1,7 @@
 -- `cugbejin_run` meets its contract.
 -- Assumes nothing.
 use Rattle.cugbejin_c.proofs.ToldLaws.{told}
-use borrow.Author.Needs.{needs}
+use Rattle.base.proofs.Prelude.{needs}
 use Rattle.cugbejin_c.proofs.cugbejin_run.Statement.{statement}
 use Rattle.cugbejin_c.proofs.cugbejin_run.Tie as tie
 

@@ -1,5 +1,5 @@
 -- `known_from` meets its contract.
-use borrow.Author.Tests.{ne-eqb}
+use Rattle.base.proofs.Prelude.{ne-eqb}
 use Rattle.cugbejin_c.proofs.known_from.Statement.{statement}
 use Rattle.cugbejin_c.proofs.known_from.Tie as tie
 

@@ -1,5 +1,5 @@
 -- `numbers_of` meets its contract.
-use borrow.Author.Needs.{needs}
+use Rattle.base.proofs.Prelude.{needs}
 use Rattle.cugbejin_c.proofs.numbers_of.Statement.{statement}
 use Rattle.cugbejin_c.proofs.numbers_of.Tie as tie
 

@@ -1,5 +1,5 @@
 -- `options_from` meets its contract.
-use borrow.Author.Needs.{needs}
+use Rattle.base.proofs.Prelude.{needs}
 use Rattle.cugbejin_c.proofs.options_from.Statement.{statement}
 use Rattle.cugbejin_c.proofs.options_from.Tie as tie
 

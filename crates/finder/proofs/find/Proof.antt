@@ -1,10 +1,9 @@
 -- `find` meets its contract: by which of the two a parsed input is.
 -- Assumes nothing.
-use mathlib.Core.Path.{sym, _∙_}
+use Rattle.base.proofs.Prelude.{_∙_, sym, needs}
 use borrow.Rule.Slice.PartAt.{part-to-end}
 use Rattle.request.proofs.RequestLaws.{asked-length}
 use Rattle.finder.proofs.FinderLaws.{asked-finds, refused-finds}
-use borrow.Author.Needs.{needs}
 use Rattle.finder.proofs.find.Statement.{statement}
 use Rattle.finder.proofs.find.Tie as tie
 

@@ -1,7 +1,7 @@
 -- `list_function` meets its contract.
 -- Assumes nothing.
 use Rattle.finder.proofs.FinderLaws.{found-listed}
-use borrow.Author.Needs.{needs}
+use Rattle.base.proofs.Prelude.{needs}
 use Rattle.finder.proofs.list_function.Statement.{statement}
 use Rattle.finder.proofs.list_function.Tie as tie
 

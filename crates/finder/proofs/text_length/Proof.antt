@@ -1,6 +1,6 @@
 -- `text_length` meets its contract: the other arm is never reached.
 -- Assumes nothing.
-use borrow.Author.Needs.{needs}
+use Rattle.base.proofs.Prelude.{needs}
 use Rattle.finder.proofs.text_length.Statement.{statement}
 use Rattle.finder.proofs.text_length.Tie as tie
 

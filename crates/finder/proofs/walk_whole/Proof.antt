@@ -1,7 +1,7 @@
 -- `walk_whole` meets its contract.
 -- Assumes nothing.
 use Rattle.finder.proofs.FinderLaws.{run-finds}
-use borrow.Author.Needs.{needs}
+use Rattle.base.proofs.Prelude.{needs}
 use Rattle.finder.proofs.walk_whole.Statement.{statement}
 use Rattle.finder.proofs.walk_whole.Tie as tie
 

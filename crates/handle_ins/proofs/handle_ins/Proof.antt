@@ -1,9 +1,7 @@
 -- `handle_ins::handle_ins` meets its contract.
-use mathlib.Core.Path.{_≡_, refl, sym, ap, _∙_}
-use denote.Ref.{now}
+use Rattle.base.proofs.Prelude.{_∙_, sym, refl, _≡_, ap, needs, now}
 use Rattle.context.specs.Lists.{lists}
 use Rattle.handle_ins.proofs.Laws.{handles-ins}
-use borrow.Author.Needs.{needs}
 use Rattle.handle_ins.proofs.handle_ins.Statement.{statement}
 use Rattle.handle_ins.proofs.handle_ins.Tie as tie
 

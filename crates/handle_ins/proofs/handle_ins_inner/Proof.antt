@@ -1,11 +1,8 @@
 -- `handle_ins::handle_ins_inner` meets its contract.
-use mathlib.Core.Path.{_≡_, refl, sym, ap, _∙_}
-use borrow.Author.Tests.{not-true, not-false}
-use denote.Ref.{now}
+use Rattle.base.proofs.Prelude.{_∙_, sym, refl, _≡_, ap, needs, not-true, not-false, now}
 use Rattle.context.specs.Lists.{lists, givenBy}
 use Rattle.handle_ins.specs.Handles.{worldOf, callsOf}
 use Rattle.handle_ins.proofs.Laws.{all-holds, inner-first, inner-stops, inner-goes, below}
-use borrow.Author.Needs.{needs}
 use Rattle.handle_ins.proofs.handle_ins_inner.Statement.{statement}
 use Rattle.handle_ins.proofs.handle_ins_inner.Tie as tie
 

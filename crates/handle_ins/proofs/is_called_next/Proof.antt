@@ -1,8 +1,6 @@
 -- `handle_ins::is_called_next` meets its contract.
 -- Assumes nothing.
-use mathlib.Core.Path.{_≡_, refl, sym, ap, _∙_}
-use mathlib.Core.Bool.{false≢true}
-use borrow.Author.Needs.{needs}
+use Rattle.base.proofs.Prelude.{_∙_, sym, refl, _≡_, ap, false≢true, needs}
 use Rattle.handle_ins.proofs.is_called_next.Statement.{statement}
 use Rattle.handle_ins.proofs.is_called_next.Tie as tie
 

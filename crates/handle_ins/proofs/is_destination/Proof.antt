@@ -1,17 +1,13 @@
 -- `handle_ins::is_destination` meets its contract.
 -- Assumes nothing.
-use mathlib.Core.Path.{_≡_, refl, sym, ap, _∙_}
-use Prim.Native.Nat.{_-_, _≤_}
-use lib.ListN.{length, drop}
+use Rattle.base.proofs.Prelude.{_∙_, sym, refl, _≡_, ap, _≤_, _-_, arith, length, drop, now}
 use Rattle.rows.proofs.MapLaws.{map-length}
 use Rattle.context.specs.Blocks.{isDestination}
 use Rattle.handle_ins.proofs.Laws.{goes-there, goes-elsewhere, goes-nowhere}
 use Rattle.context.specs.Context.{callRow}
 use Rattle.rows.specs.Map.{mapIn}
-use denote.Ref.{now}
 use Rattle.handle_ins.proofs.is_destination.Statement.{statement}
 use Rattle.handle_ins.proofs.is_destination.Tie as tie
-use native.Mathlib.Omega.{arith}
 
 abbrev Inv-loop : tie.InvT-loop
 Inv-loop calls count address i₀ i = (i ≤ count) × (isDestination address (drop i (mapIn callRow count calls)) ≡ isDestination address (mapIn callRow count calls))

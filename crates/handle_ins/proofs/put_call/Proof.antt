@@ -1,9 +1,7 @@
 -- `handle_ins::put_call` meets its contract.
 -- Assumes nothing.
-use mathlib.Core.Path.{refl}
-use denote.Ref.{now}
+use Rattle.base.proofs.Prelude.{refl, needs, now}
 use Rattle.handle_ins.proofs.Laws.{stores-none, stores-call}
-use borrow.Author.Needs.{needs}
 use Rattle.handle_ins.proofs.put_call.Statement.{statement}
 use Rattle.handle_ins.proofs.put_call.Tie as tie
 
@@ -19,8 +17,8 @@ enum-known-call c = search needs
 enter-requires : tie.Need-enter-requires
 enter-requires c κs = search needs
 
-entered-requires : tie.Need-entered-requires
-entered-requires c κs = search needs
+with-entry-requires : tie.Need-with-entry-requires
+with-entry-requires c κs = search needs
 
 returns : tie.Need-returns
 returns c =
@@ -35,7 +33,7 @@ returns-2 : tie.Need-returns-2
 returns-2 c =
     let start = c .before .before .before .before .before .before .before .before .before .before .before in
     stores-call (start .args .count) (now (start .args .calls)) (start .args .r) (c .before .before .before .before .before .before .before .call .given .1) (c .before .before .before .enter .ensures)
-    (c .entered .ensures)
+    (c .with-entry .ensures)
 
 pub put-call-spec : {M : Type 1} → statement M
 put-call-spec =
@@ -45,7 +43,7 @@ put-call-spec =
     count-calls-requires
     enum-known-call
     enter-requires
-    entered-requires
+    with-entry-requires
     returns
     same-length
     returns-2)

@@ -1,10 +1,8 @@
 -- `handling::from_return` meets its contract.
-use mathlib.Core.List.{[], _∷_}
-use denote.Ref.{now}
+use Rattle.base.proofs.Prelude.{[], _∷_, needs, now}
 use Rattle.context.specs.Context.{goes}
 use Rattle.context.specs.Blocks.{finalReturn, entryAfterBranch, branch, poolLoad, inlineTable, functionCall, checkDefined, fromReturn}
 use Rattle.handling.proofs.Laws.{Entry, went-on, stopped, from-first, from-alone, from-labels, from-pools, from-inlines, from-call, from-options, from-goes, from-held, from-stops}
-use borrow.Author.Needs.{needs}
 use Rattle.handling.proofs.from_return.Statement.{statement}
 use Rattle.handling.proofs.from_return.Tie as tie
 

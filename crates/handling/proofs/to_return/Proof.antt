@@ -1,9 +1,7 @@
 -- `handling::to_return` meets its contract.
-use mathlib.Core.List.{[], _∷_}
-use denote.Ref.{now}
+use Rattle.base.proofs.Prelude.{[], _∷_, needs, now}
 use Rattle.context.specs.Blocks.{skipInlineTable, jumpTable, illegalCode, branchOutside, markPool, forgetWritten, toReturn}
 use Rattle.handling.proofs.Laws.{went-on, stopped, to-first, to-inlines, to-jumps, to-alone, to-goes, to-held, to-stops}
-use borrow.Author.Needs.{needs}
 use Rattle.handling.proofs.to_return.Statement.{statement}
 use Rattle.handling.proofs.to_return.Tie as tie
 

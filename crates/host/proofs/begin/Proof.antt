@@ -15,7 +15,7 @@ use Rattle.calls.proofs.Walk.{word, half, holds, sets, enters, gets, leaves, Me
 use Rattle.calls.proofs.Call as T
 use Rattle.calls.proofs.Edit as X
 use Rattle.stepper.proofs.Answered as P
-use Rattle.stepper.specs.Calls.{Called, begin}
+use Rattle.stepper.specs.Stepper.{Called, begin}
 use Rattle.walk.specs.declared.Options.{Options}
 use Rattle.walk.proofs.Options as O
 use Rattle.walk.specs.declared.Counts.{Counts}

@@ -18,7 +18,7 @@ use Rattle.calls.proofs.Call as T
 use Rattle.calls.proofs.Told as D
 use Rattle.calls.proofs.Edit as X
 use Rattle.stepper.proofs.Answered as P
-use Rattle.stepper.specs.Calls.{Called, step}
+use Rattle.stepper.specs.Stepper.{Called, step}
 use Rattle.walk.specs.declared.Options.{Options}
 use Rattle.walk.proofs.Options as O
 use Rattle.walk.specs.declared.Walk.{Walk}

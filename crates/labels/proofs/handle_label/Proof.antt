@@ -1,7 +1,6 @@
 -- `labels::handle_label` meets its contract.
-use denote.Ref.{now}
+use Rattle.base.proofs.Prelude.{needs, now}
 use Rattle.labels.proofs.Laws.{label-full, label-in, at-label}
-use borrow.Author.Needs.{needs}
 use Rattle.labels.proofs.handle_label.Statement.{statement}
 use Rattle.labels.proofs.handle_label.Tie as tie
 

@@ -1,5 +1,5 @@
 -- `labels::label_raised` meets its contract.
-use borrow.Author.Needs.{needs}
+use Rattle.base.proofs.Prelude.{needs}
 use Rattle.labels.proofs.label_raised.Statement.{statement}
 use Rattle.labels.proofs.label_raised.Tie as tie
 

@@ -1,12 +1,9 @@
 -- `labels::past_pools` meets its contract.
-use mathlib.Core.Path.{refl, sym, _∙_}
-use borrow.Author.Tests.{le-ltb, lt-ltb, not-true, not-false}
+use Rattle.base.proofs.Prelude.{_∙_, sym, refl, arith, needs, lt-ltb, le-ltb, not-false, not-true}
 use Rattle.context.specs.Blocks.{pastPools}
 use Rattle.labels.proofs.Laws.{above-within}
-use borrow.Author.Needs.{needs}
 use Rattle.labels.proofs.past_pools.Statement.{statement}
 use Rattle.labels.proofs.past_pools.Tie as tie
-use native.Mathlib.Omega.{arith}
 
 add-next : tie.Need-add-next
 add-next c = search needs

@@ -1,5 +1,5 @@
 -- `labels::raises_label` meets its contract.
-use borrow.Author.Needs.{needs}
+use Rattle.base.proofs.Prelude.{needs}
 use Rattle.labels.proofs.raises_label.Statement.{statement}
 use Rattle.labels.proofs.raises_label.Tie as tie
 

@@ -1,13 +1,10 @@
 -- `listing::has_room` meets its contract.
 -- Assumes nothing.
-use mathlib.Core.Path.{sym}
-use borrow.Author.Tests.{lt-leb}
+use Rattle.base.proofs.Prelude.{sym, arith, needs, lt-leb}
 use Rattle.listing.specs.Listing.{roomWith}
 use Rattle.listing.proofs.ListingLaws.{room-lines}
-use borrow.Author.Needs.{needs}
 use Rattle.listing.proofs.has_room.Statement.{statement}
 use Rattle.listing.proofs.has_room.Tie as tie
-use native.Mathlib.Omega.{arith}
 
 returns : tie.Need-returns
 unfolding roomWith

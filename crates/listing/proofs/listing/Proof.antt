@@ -1,15 +1,12 @@
 -- `listing::listing` meets its contract.
 -- Assumes nothing.
-use mathlib.Core.Path.{sym, _∙_}
-use borrow.Author.Tests.{leb-true, leb-false}
+use Rattle.base.proofs.Prelude.{_∙_, sym, arith, needs, leb-true, leb-false}
 use Rattle.words.proofs.Texts.{answered-none, answered-text}
 use Rattle.listing.specs.Listing.{textOf, roomWith, roomFor}
 use Rattle.listing.proofs.ListingLaws.{shown-fits}
 use Rattle.context.specs.Lists.{lists}
-use borrow.Author.Needs.{needs}
 use Rattle.listing.proofs.listing.Statement.{statement}
 use Rattle.listing.proofs.listing.Tie as tie
-use native.Mathlib.Omega.{arith}
 
 shown-requires : tie.Need-shown-requires
 shown-requires c κs = search needs

@@ -1,12 +1,10 @@
 -- `listing::put_answer` meets its contract.
 -- Assumes nothing.
-use Prim.Native.Nat.{zero-le}
+use Rattle.base.proofs.Prelude.{zero-le, arith, needs}
 use Rattle.text.proofs.Put.{written-then, written-none}
 use Rattle.listing.specs.Listing.{textWith, roomWith}
-use borrow.Author.Needs.{needs}
 use Rattle.listing.proofs.put_answer.Statement.{statement}
 use Rattle.listing.proofs.put_answer.Tie as tie
-use native.Mathlib.Omega.{arith}
 
 enum-told : tie.Need-enum-told
 enum-told c = search needs

@@ -1,14 +1,11 @@
 -- `listing::put_field` meets its contract.
 -- Assumes nothing.
-use Prim.Native.Nat.{_≤_}
-use lib.ListN.{length}
+use Rattle.base.proofs.Prelude.{_≤_, arith, length, needs}
 use Rattle.text.proofs.Put.{written-then}
 use Rattle.listing.specs.Lines.{field}
 use Rattle.listing.proofs.ListingLaws.{field-length}
-use borrow.Author.Needs.{needs}
 use Rattle.listing.proofs.put_field.Statement.{statement}
 use Rattle.listing.proofs.put_field.Tie as tie
-use native.Mathlib.Omega.{arith}
 
 put-byte-requires : tie.Need-put-byte-requires
 put-byte-requires c κs = search needs

@@ -1,13 +1,10 @@
 -- `listing::put_line` meets its contract.
 -- Assumes nothing.
-use Prim.Native.Nat.{_≤_}
-use lib.ListN.{length}
+use Rattle.base.proofs.Prelude.{_≤_, arith, length, needs}
 use Rattle.text.proofs.Put.{written-then}
 use Rattle.listing.specs.Lines.{newline, lineOf}
-use borrow.Author.Needs.{needs}
 use Rattle.listing.proofs.put_line.Statement.{statement}
 use Rattle.listing.proofs.put_line.Tie as tie
-use native.Mathlib.Omega.{arith}
 
 put-bytes-requires : tie.Need-put-bytes-requires
 put-bytes-requires c κs = search needs

@@ -1,9 +1,7 @@
 -- `listing::put_lines` meets its contract. The invariant: the lines of the first i rows are written. The measure is how many rows are left.
 -- Assumes nothing.
-use mathlib.Core.Path.{_≡_, refl}
-use Prim.Native.Nat.{_+_, _*_, _-_, _≤_, zero-le}
-use native.Mathlib.Numerals.{add-one}
-use lib.ListN.{length, length-take, length-drop}
+use Rattle.base.proofs.Prelude.{refl, _≡_, _≤_, _+_, _-_, _*_, zero-le, arith, add-one, length, length-drop, needs}
+use lib.ListN.{length-take}
 use Rattle.rows.specs.Map.{mapIn}
 use Rattle.rows.proofs.MapLaws.{row-fits}
 use Rattle.text.specs.Put.{Written}
@@ -12,8 +10,6 @@ use Rattle.listing.specs.Lines.{linesOf}
 use Rattle.listing.proofs.ListingLaws.{lines-more}
 use Rattle.listing.proofs.put_lines.Statement.{statement}
 use Rattle.listing.proofs.put_lines.Tie as tie
-use borrow.Author.Needs.{needs}
-use native.Mathlib.Omega.{arith}
 
 abbrev Inv-loop : tie.InvT-loop
 Inv-loop out₀ at name list stride count next₀ i₀ out next i = (i ≤ count) × (length out ≡ length out₀) × (next ≤ at + 40 * i) × Written out₀ at (linesOf name (mapIn stride i list)) next out

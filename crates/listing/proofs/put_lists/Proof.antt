@@ -1,14 +1,11 @@
 -- `listing::put_lists` meets its contract.
 -- Assumes nothing.
-use Prim.Native.Nat.{_≤_}
-use lib.ListN.{length}
+use Rattle.base.proofs.Prelude.{_≤_, arith, length, needs}
 use Rattle.text.proofs.Put.{written-then}
 use Rattle.words.specs.Names.{bytes}
 use Rattle.listing.specs.Listing.{listLines}
-use borrow.Author.Needs.{needs}
 use Rattle.listing.proofs.put_lists.Statement.{statement}
 use Rattle.listing.proofs.put_lists.Tie as tie
-use native.Mathlib.Omega.{arith}
 
 slice-aggregate-put-lines : tie.Need-slice-aggregate-put-lines
 slice-aggregate-put-lines c = search needs

@@ -1,16 +1,13 @@
 -- `listing::put_refusal` meets its contract.
 -- Assumes nothing.
-use Prim.Native.Nat.{_≤_}
-use lib.ListN.{length}
+use Rattle.base.proofs.Prelude.{_≤_, arith, length, needs}
 use Rattle.text.proofs.Put.{written-then}
 use Rattle.text.proofs.Decimal.{decimal-length}
 use Rattle.words.specs.Names.{bytes}
 use Rattle.listing.specs.Lines.{newline}
 use Rattle.listing.specs.Listing.{refusalLine}
-use borrow.Author.Needs.{needs}
 use Rattle.listing.proofs.put_refusal.Statement.{statement}
 use Rattle.listing.proofs.put_refusal.Tie as tie
-use native.Mathlib.Omega.{arith}
 
 slice-aggregate-put-bytes : tie.Need-slice-aggregate-put-bytes
 slice-aggregate-put-bytes c = search needs

@@ -1,15 +1,11 @@
 -- `listing::put_rest` meets its contract.
 -- Assumes nothing.
-use Prim.Native.Nat.{_≤_}
-use lib.ListN.{length}
-use borrow.Author.Tests.{eq-eqb, ne-eqb}
+use Rattle.base.proofs.Prelude.{_≤_, arith, length, needs, eq-eqb, ne-eqb}
 use Rattle.text.proofs.Put.{written-then, written-none}
 use Rattle.listing.specs.Lines.{markOf, modeOf, restOf}
 use Rattle.words.specs.Names.{bytes}
-use borrow.Author.Needs.{needs}
 use Rattle.listing.proofs.put_rest.Statement.{statement}
 use Rattle.listing.proofs.put_rest.Tie as tie
-use native.Mathlib.Omega.{arith}
 
 shared-slice-read-put-field : tie.Need-shared-slice-read-put-field
 shared-slice-read-put-field c = search needs

@@ -1,10 +1,8 @@
 -- `listing::put_word` meets its contract.
 -- Assumes nothing.
-use borrow.Author.Tests.{eq-eqb, ne-eqb}
-use borrow.Author.Needs.{needs}
+use Rattle.base.proofs.Prelude.{arith, needs, eq-eqb, ne-eqb}
 use Rattle.listing.proofs.put_word.Statement.{statement}
 use Rattle.listing.proofs.put_word.Tie as tie
-use native.Mathlib.Omega.{arith}
 
 put-bytes-requires : tie.Need-put-bytes-requires
 put-bytes-requires c κs = search needs

@@ -1,7 +1,7 @@
 -- `listing::shown` meets its contract.
 -- Assumes nothing.
 use Rattle.listing.specs.Listing.{shown}
-use borrow.Author.Needs.{needs}
+use Rattle.base.proofs.Prelude.{needs}
 use Rattle.listing.proofs.shown.Statement.{statement}
 use Rattle.listing.proofs.shown.Tie as tie
 

@@ -1,9 +1,8 @@
 -- `outcome::clear_all` meets its contract.
 -- Assumes nothing.
-use denote.Ref.{now}
+use Rattle.base.proofs.Prelude.{needs, now}
 use Rattle.outcome.proofs.Laws.{all-zeroed}
 use Rattle.context.specs.Lists.{lists}
-use borrow.Author.Needs.{needs}
 use Rattle.outcome.proofs.clear_all.Statement.{statement}
 use Rattle.outcome.proofs.clear_all.Tie as tie
 

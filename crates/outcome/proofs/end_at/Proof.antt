@@ -1,5 +1,5 @@
 -- `outcome::end_at` meets its contract.
-use borrow.Author.Needs.{needs}
+use Rattle.base.proofs.Prelude.{needs}
 use Rattle.outcome.proofs.end_at.Statement.{statement}
 use Rattle.outcome.proofs.end_at.Tie as tie
 

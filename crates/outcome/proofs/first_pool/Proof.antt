@@ -1,6 +1,6 @@
 -- `outcome::first_pool` meets its contract.
 -- Assumes nothing.
-use borrow.Author.Needs.{needs}
+use Rattle.base.proofs.Prelude.{needs}
 use Rattle.outcome.proofs.first_pool.Statement.{statement}
 use Rattle.outcome.proofs.first_pool.Tie as tie
 

@@ -1,5 +1,5 @@
 -- `outcome::settle` meets its contract.
-use borrow.Author.Needs.{needs}
+use Rattle.base.proofs.Prelude.{needs}
 use Rattle.outcome.proofs.settle.Statement.{statement}
 use Rattle.outcome.proofs.settle.Tie as tie
 
@@ -24,8 +24,8 @@ end-at-requires c κs = search needs
 enum-known-then-2 : tie.Need-enum-known-then-2
 enum-known-then-2 c = search needs
 
-refused-requires : tie.Need-refused-requires
-refused-requires c κs = search needs
+refused-walk-requires : tie.Need-refused-walk-requires
+refused-walk-requires c κs = search needs
 
 returns : tie.Need-returns
 returns c = rw (c .before .enum-told .given .1) (c .walk-in .ensures)
@@ -37,7 +37,7 @@ returns-3 : tie.Need-returns-3
 returns-3 c = rw (c .before .before .then .given .1) (c .end-at .ensures)
 
 returns-4 : tie.Need-returns-4
-returns-4 c = rw (c .before .before .before .before .then2 .given .1) (c .refused .ensures)
+returns-4 c = rw (c .before .before .before .before .then2 .given .1) (c .refused-walk .ensures)
 
 pub settle-spec : {M : Type 1} → statement M
 settle-spec =
@@ -50,7 +50,7 @@ settle-spec =
     enum-known-then
     end-at-requires
     enum-known-then-2
-    refused-requires
+    refused-walk-requires
     returns
     returns-2
     returns-3

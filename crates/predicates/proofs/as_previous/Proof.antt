@@ -1,6 +1,6 @@
 -- `as_previous` meets its contract.
 use Rattle.predicates.specs.Predicates.{asPrevious}
-use borrow.Author.Needs.{needs}
+use Rattle.base.proofs.Prelude.{needs}
 use Rattle.predicates.proofs.as_previous.Statement.{statement}
 use Rattle.predicates.proofs.as_previous.Tie as tie
 

@@ -1,7 +1,6 @@
 -- `called` meets its contract.
-use mathlib.Core.Path.{sym, _∙_}
+use Rattle.base.proofs.Prelude.{_∙_, sym, needs}
 use Rattle.predicates.specs.Predicates.{calledBy}
-use borrow.Author.Needs.{needs}
 use Rattle.predicates.proofs.called.Statement.{statement}
 use Rattle.predicates.proofs.called.Tie as tie
 

@@ -1,5 +1,5 @@
 -- `immediate` meets its contract.
-use borrow.Author.Needs.{needs}
+use Rattle.base.proofs.Prelude.{needs}
 use mir.ValLaws.{toZ-ofZ}
 use mir.Syntax.{w32}
 use Rattle.predicates.proofs.immediate.Statement.{statement}

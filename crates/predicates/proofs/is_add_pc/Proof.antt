@@ -1,8 +1,6 @@
 -- `is_add_pc` meets its contract.
-use mathlib.Core.Path.{sym, _∙_}
-use borrow.Author.Tests.{eq-eqb, ne-eqb}
+use Rattle.base.proofs.Prelude.{_∙_, sym, needs, eq-eqb, ne-eqb}
 use Rattle.predicates.specs.Predicates.{isAddPc}
-use borrow.Author.Needs.{needs}
 use Rattle.predicates.proofs.is_add_pc.Statement.{statement}
 use Rattle.predicates.proofs.is_add_pc.Tie as tie
 

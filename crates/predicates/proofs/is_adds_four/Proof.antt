@@ -1,8 +1,6 @@
 -- `is_adds_four` meets its contract.
-use mathlib.Core.Path.{sym, _∙_}
-use borrow.Author.Tests.{eq-eqb, ne-eqb}
+use Rattle.base.proofs.Prelude.{_∙_, sym, needs, eq-eqb, ne-eqb}
 use Rattle.predicates.specs.Predicates.{isAddsFour}
-use borrow.Author.Needs.{needs}
 use Rattle.predicates.proofs.is_adds_four.Statement.{statement}
 use Rattle.predicates.proofs.is_adds_four.Tie as tie
 

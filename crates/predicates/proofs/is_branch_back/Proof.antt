@@ -1,7 +1,6 @@
 -- `is_branch_back` meets its contract.
-use mathlib.Core.Path.{sym, _∙_}
+use Rattle.base.proofs.Prelude.{_∙_, sym, needs}
 use Rattle.predicates.specs.Predicates.{isBranchBack}
-use borrow.Author.Needs.{needs}
 use Rattle.predicates.proofs.is_branch_back.Statement.{statement}
 use Rattle.predicates.proofs.is_branch_back.Tie as tie
 

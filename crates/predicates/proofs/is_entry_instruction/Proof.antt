@@ -1,7 +1,6 @@
 -- `is_entry_instruction` meets its contract.
-use mathlib.Core.Path.{sym, _∙_}
+use Rattle.base.proofs.Prelude.{_∙_, sym, needs}
 use Rattle.predicates.specs.Predicates.{isEntryInstruction}
-use borrow.Author.Needs.{needs}
 use Rattle.predicates.proofs.is_entry_instruction.Statement.{statement}
 use Rattle.predicates.proofs.is_entry_instruction.Tie as tie
 

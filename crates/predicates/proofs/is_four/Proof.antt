@@ -1,5 +1,5 @@
 -- `is_four` meets its contract.
-use borrow.Author.Needs.{needs}
+use Rattle.base.proofs.Prelude.{needs}
 use Rattle.predicates.proofs.is_four.Statement.{statement}
 use Rattle.predicates.proofs.is_four.Tie as tie
 

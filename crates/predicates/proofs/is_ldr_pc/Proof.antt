@@ -1,7 +1,6 @@
 -- `is_ldr_pc` meets its contract.
-use mathlib.Core.Path.{sym, _∙_}
+use Rattle.base.proofs.Prelude.{_∙_, sym, needs}
 use Rattle.predicates.specs.Predicates.{isLdrPc}
-use borrow.Author.Needs.{needs}
 use Rattle.predicates.proofs.is_ldr_pc.Statement.{statement}
 use Rattle.predicates.proofs.is_ldr_pc.Tie as tie
 

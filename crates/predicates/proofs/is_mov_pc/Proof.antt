@@ -1,7 +1,6 @@
 -- `is_mov_pc` meets its contract.
-use mathlib.Core.Path.{sym, _∙_}
+use Rattle.base.proofs.Prelude.{_∙_, sym, needs}
 use Rattle.predicates.specs.Predicates.{isMovPc}
-use borrow.Author.Needs.{needs}
 use Rattle.predicates.proofs.is_mov_pc.Statement.{statement}
 use Rattle.predicates.proofs.is_mov_pc.Tie as tie
 

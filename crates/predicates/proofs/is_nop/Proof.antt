@@ -1,7 +1,6 @@
 -- `is_nop` meets its contract.
-use mathlib.Core.Path.{sym, _∙_}
+use Rattle.base.proofs.Prelude.{_∙_, sym, needs}
 use Rattle.predicates.specs.Predicates.{isNop}
-use borrow.Author.Needs.{needs}
 use Rattle.predicates.proofs.is_nop.Statement.{statement}
 use Rattle.predicates.proofs.is_nop.Tie as tie
 

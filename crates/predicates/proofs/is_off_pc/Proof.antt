@@ -1,5 +1,5 @@
 -- `is_off_pc` meets its contract.
-use borrow.Author.Needs.{needs}
+use Rattle.base.proofs.Prelude.{needs}
 use Rattle.predicates.proofs.is_off_pc.Statement.{statement}
 use Rattle.predicates.proofs.is_off_pc.Tie as tie
 

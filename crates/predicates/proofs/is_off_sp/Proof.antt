@@ -1,6 +1,5 @@
 -- `is_off_sp` meets its contract.
-use borrow.Author.Tests.{ne-eqb}
-use borrow.Author.Needs.{needs}
+use Rattle.base.proofs.Prelude.{needs, ne-eqb}
 use Rattle.predicates.proofs.is_off_sp.Statement.{statement}
 use Rattle.predicates.proofs.is_off_sp.Tie as tie
 

@@ -1,7 +1,6 @@
 -- `is_pool_load` meets its contract.
-use mathlib.Core.Path.{sym, _∙_}
+use Rattle.base.proofs.Prelude.{_∙_, sym, needs}
 use Rattle.predicates.specs.Predicates.{isPoolLoad}
-use borrow.Author.Needs.{needs}
 use Rattle.predicates.proofs.is_pool_load.Statement.{statement}
 use Rattle.predicates.proofs.is_pool_load.Tie as tie
 

@@ -1,7 +1,6 @@
 -- `is_push` meets its contract.
-use mathlib.Core.Path.{sym, _∙_}
+use Rattle.base.proofs.Prelude.{_∙_, sym, needs}
 use Rattle.predicates.specs.Predicates.{isPush}
-use borrow.Author.Needs.{needs}
 use Rattle.predicates.proofs.is_push.Statement.{statement}
 use Rattle.predicates.proofs.is_push.Tie as tie
 

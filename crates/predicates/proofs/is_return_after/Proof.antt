@@ -1,7 +1,6 @@
 -- `is_return_after` meets its contract.
-use mathlib.Core.Path.{sym, _∙_}
+use Rattle.base.proofs.Prelude.{_∙_, sym, needs}
 use Rattle.predicates.specs.Predicates.{isReturnAfter}
-use borrow.Author.Needs.{needs}
 use Rattle.predicates.proofs.is_return_after.Statement.{statement}
 use Rattle.predicates.proofs.is_return_after.Tie as tie
 

@@ -1,7 +1,6 @@
 -- `is_stack_store` meets its contract.
-use mathlib.Core.Path.{sym, _∙_}
+use Rattle.base.proofs.Prelude.{_∙_, sym, needs}
 use Rattle.predicates.specs.Predicates.{isStackStore}
-use borrow.Author.Needs.{needs}
 use Rattle.predicates.proofs.is_stack_store.Statement.{statement}
 use Rattle.predicates.proofs.is_stack_store.Tie as tie
 

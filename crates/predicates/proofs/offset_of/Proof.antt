@@ -1,8 +1,7 @@
 -- `offset_of` meets its contract.
-use mathlib.Core.Path.{_∙_}
+use Rattle.base.proofs.Prelude.{_∙_, needs}
 use mir.ValLaws.{toZ-ofZ}
 use mir.Syntax.{w32}
-use borrow.Author.Needs.{needs}
 use Rattle.predicates.proofs.offset_of.Statement.{statement}
 use Rattle.predicates.proofs.offset_of.Tie as tie
 

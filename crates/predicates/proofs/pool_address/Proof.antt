@@ -1,10 +1,6 @@
 -- `pool_address` meets its contract: the machine's 64-bit sum is the sum of the integers, and its two tests are the definition's cases.
 -- Assumes nothing.
-use Prim.Native.Nat.{_^_, _<_}
-use mathlib.Core.Path.{_≡_, sym}
-use native.Mathlib.Omega.{arith}
-use borrow.Author.Needs.{needs}
-use lib.Dec.{T}
+use Rattle.base.proofs.Prelude.{sym, _≡_, _<_, _^_, arith, T, needs}
 use lib.IntN.{ℤ, pos, natAbs, _+ℤ_}
 use lib.Signed.{nonNeg}
 use mir.Syntax.{w32, w64}

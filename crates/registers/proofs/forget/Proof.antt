@@ -1,21 +1,15 @@
 -- `registers::forget` meets its contract. The loop's invariant: what is left of the set fits the registers from r on, and clearing it from r on leads to
 -- the same columns. The measure is what is left of the set.
 -- Assumes nothing.
-use mathlib.Core.Path.{_≡_, refl, _∙_}
-use mathlib.Core.Logic.{⊎-elim}
-use Prim.Native.Nat.{_-_, _^_, _<_}
-use native.Mathlib.Numerals.{add-one}
-use native.Mathlib.Omega.{arith}
-use borrow.Author.Needs.{needs}
-use lib.ListN.{length, length-set}
-use Rattle.registers.specs.Registers.{cleared, forgotten}
+use Rattle.base.proofs.Prelude.{_∙_, refl, _≡_, ⊎-elim, _<_, _-_, _^_, arith, add-one, length, length-set, needs}
+use Rattle.registers.specs.Registers.{columnForgotten, forgotten}
 use Rattle.registers.proofs.RegisterLaws.{half, half-in, half-out, half-none, one-left, half-fits}
 use Rattle.registers.proofs.forget.Statement.{statement}
 use Rattle.registers.proofs.forget.Tie as tie
 
 abbrev Inv-loop : tie.InvT-loop
 Inv-loop set values₀ sources₀ rest₀ r₀ values sources rest r =
-    (length values ≡ 16) × (length sources ≡ 16) × (rest < 2 ^ (16 - r)) × (half r rest values ≡ cleared set values₀) × (half r rest sources ≡ cleared set sources₀)
+    (length values ≡ 16) × (length sources ≡ 16) × (rest < 2 ^ (16 - r)) × (half r rest values ≡ columnForgotten set values₀) × (half r rest sources ≡ columnForgotten set sources₀)
 
 abbrev μ-loop : tie.MeasureT-loop
 μ-loop set values₀ sources₀ rest₀ r₀ values sources rest r = rest

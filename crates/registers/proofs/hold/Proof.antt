@@ -1,9 +1,6 @@
 -- `registers::hold` meets its contract. A register past the columns' ends changes nothing.
 -- Assumes nothing.
-use mathlib.Core.Path.{_≡_}
-use native.Mathlib.Omega.{arith}
-use borrow.Author.Needs.{needs}
-use lib.ListN.{length}
+use Rattle.base.proofs.Prelude.{_≡_, arith, length, needs}
 use lib.Seq.{set-out}
 use Rattle.registers.specs.Registers.{holding}
 use Rattle.registers.proofs.hold.Statement.{statement}

@@ -1,10 +1,7 @@
 -- `registers::lowest_missing` meets its contract. The loop's invariant: the search from r on leads to the same register. The measure is how many registers
 -- are left.
 -- Assumes nothing.
-use mathlib.Core.Path.{_≡_, refl, sym, _∙_}
-use mathlib.Core.Logic.{⊎-elim}
-use Prim.Native.Nat.{_-_, _≤_}
-use native.Mathlib.Omega.{arith}
+use Rattle.base.proofs.Prelude.{_∙_, sym, refl, _≡_, ⊎-elim, _≤_, _-_, arith}
 use Rattle.registers.specs.Registers.{missingFrom}
 use Rattle.registers.proofs.RegisterLaws.{missing-here, missing-unused, missing-defined, missing-none}
 use Rattle.registers.proofs.lowest_missing.Statement.{statement}

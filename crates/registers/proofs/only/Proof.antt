@@ -1,8 +1,6 @@
 -- `registers::only` meets its contract: the bit fits sixteen bits, so the shift loses nothing.
 -- Assumes nothing.
-use Prim.Native.Nat.{_%_, _^_, _<_}
-use native.Mathlib.Omega.{arith}
-use borrow.Author.Needs.{needs}
+use Rattle.base.proofs.Prelude.{_<_, _^_, _%_, arith, needs}
 use lib.Pow.{pow-lt}
 use Rattle.registers.proofs.only.Statement.{statement}
 use Rattle.registers.proofs.only.Tie as tie

@@ -1,9 +1,7 @@
 -- `registers::source_of` meets its contract. A register past the column's end has no pool word.
 -- Assumes nothing.
-use mathlib.Core.Path.{_≡_, sym}
-use native.Mathlib.Omega.{arith}
-use borrow.Author.Needs.{needs}
-use lib.ListN.{length, List·getD-eq-default}
+use Rattle.base.proofs.Prelude.{sym, _≡_, arith, length, needs}
+use lib.ListN.{List·getD-eq-default}
 use Rattle.registers.specs.Registers.{sourceOf}
 use Rattle.registers.proofs.source_of.Statement.{statement}
 use Rattle.registers.proofs.source_of.Tie as tie

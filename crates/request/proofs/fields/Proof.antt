@@ -1,6 +1,6 @@
 -- `fields` meets its contract.
 -- Assumes nothing.
-use borrow.Author.Needs.{needs}
+use Rattle.base.proofs.Prelude.{needs}
 use Rattle.request.specs.Request.{requestOf}
 use Rattle.request.proofs.fields.Statement.{statement}
 use Rattle.request.proofs.fields.Tie as tie

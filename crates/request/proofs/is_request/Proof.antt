@@ -1,8 +1,6 @@
 -- `is_request` meets its contract: each test that it leaves by says what a request would have.
 -- Assumes nothing.
-use mathlib.Core.Path.{sym}
-use native.Mathlib.Omega.{arith}
-use borrow.Author.Needs.{needs}
+use Rattle.base.proofs.Prelude.{sym, arith, needs}
 use Rattle.request.proofs.RequestLaws.{no-request, check-decides}
 use Rattle.request.proofs.is_request.Statement.{statement}
 use Rattle.request.proofs.is_request.Tie as tie

@@ -1,6 +1,6 @@
 -- `known_end` meets its contract.
 -- Assumes nothing.
-use borrow.Author.Tests.{eq-eqb, ne-eqb}
+use Rattle.base.proofs.Prelude.{eq-eqb, ne-eqb}
 use Rattle.request.specs.Request.{knownEnd}
 use Rattle.request.proofs.known_end.Statement.{statement}
 use Rattle.request.proofs.known_end.Tie as tie

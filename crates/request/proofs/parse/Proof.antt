@@ -1,7 +1,6 @@
 -- `parse` meets its contract.
 -- Assumes nothing.
-use mathlib.Core.Path.{sym, _∙_}
-use borrow.Author.Needs.{needs}
+use Rattle.base.proofs.Prelude.{_∙_, sym, needs}
 use Rattle.request.specs.Request.{parsed}
 use Rattle.request.proofs.RequestLaws.{request-length}
 use Rattle.request.proofs.parse.Statement.{statement}

@@ -1,9 +1,7 @@
 -- `stepper::begin` meets its contract.
 -- Assumes nothing.
-use mathlib.Core.Path.{_≡_, refl, sym, ap, _∙_}
-use borrow.Author.Tests.{eq-eqb, ne-eqb, not-true, not-false}
-use Rattle.stepper.specs.Calls.{begin}
-use borrow.Author.Needs.{needs}
+use Rattle.base.proofs.Prelude.{_∙_, sym, refl, _≡_, ap, needs, eq-eqb, ne-eqb, not-true, not-false}
+use Rattle.stepper.specs.Stepper.{begin}
 use Rattle.stepper.proofs.begin.Statement.{statement}
 use Rattle.stepper.proofs.begin.Tie as tie
 

@@ -1,7 +1,7 @@
 -- `stepper::finish` meets its contract.
 -- Assumes nothing.
-use Rattle.stepper.specs.Calls.{finish}
-use borrow.Author.Needs.{needs}
+use Rattle.stepper.specs.Stepper.{finish}
+use Rattle.base.proofs.Prelude.{needs}
 use Rattle.stepper.proofs.finish.Statement.{statement}
 use Rattle.stepper.proofs.finish.Tie as tie
 

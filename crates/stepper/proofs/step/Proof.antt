@@ -1,12 +1,9 @@
 -- `stepper::step` meets its contract.
 -- Assumes nothing.
-use mathlib.Core.Path.{_≡_, refl, sym, ap, _∙_}
-use borrow.Author.Tests.{eq-eqb, ne-eqb, not-true, not-false}
-use denote.Ref.{now}
-use Rattle.stepper.specs.Calls.{step}
+use Rattle.base.proofs.Prelude.{_∙_, sym, refl, _≡_, ap, needs, eq-eqb, ne-eqb, not-true, not-false, now}
+use Rattle.stepper.specs.Stepper.{step}
 use Rattle.context.specs.Lists.{lists}
 use Rattle.stepper.proofs.Laws.{called-turned, turn-may}
-use borrow.Author.Needs.{needs}
 use Rattle.stepper.proofs.step.Statement.{statement}
 use Rattle.stepper.proofs.step.Tie as tie
 

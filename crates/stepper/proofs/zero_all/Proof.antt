@@ -1,9 +1,8 @@
 -- `stepper::zero_all` meets its contract.
 -- Assumes nothing.
-use denote.Ref.{now}
+use Rattle.base.proofs.Prelude.{needs, now}
 use Rattle.context.specs.Lists.{lists}
 use Rattle.outcome.proofs.Laws.{all-zeroed}
-use borrow.Author.Needs.{needs}
 use Rattle.stepper.proofs.zero_all.Statement.{statement}
 use Rattle.stepper.proofs.zero_all.Tie as tie
 

@@ -1,10 +1,5 @@
 -- `tables::inline_table_at` meets its contract.
-use mathlib.Core.Path.{_≡_, refl, sym, _∙_}
-use Prim.Native.Nat.{_-_, _≤_}
-use denote.Ref.{now}
-use lib.ListN.{length, getD, drop}
-use mathlib.Core.Bool.{true, false}
-use mathlib.Core.List.{[]}
+use Rattle.base.proofs.Prelude.{_∙_, sym, refl, _≡_, true, false, [], _≤_, _-_, arith, length, drop, getD, needs, now}
 use Rattle.tables.proofs.Laws.{found-here, not-here, none-left}
 use Rattle.rows.specs.Map.{mapIn}
 use Rattle.rows.proofs.MapLaws.{map-length}
@@ -12,8 +7,6 @@ use Rattle.context.specs.Context.{tableRow}
 use Rattle.context.specs.Blocks.{isWithin, inlineTableAt}
 use Rattle.tables.proofs.inline_table_at.Statement.{statement}
 use Rattle.tables.proofs.inline_table_at.Tie as tie
-use borrow.Author.Needs.{needs}
-use native.Mathlib.Omega.{arith}
 
 abbrev Inv-loop : tie.InvT-loop
 Inv-loop inline-tables count address i₀ i =

@@ -1,5 +1,5 @@
 -- `tables::is_within` meets its contract.
-use borrow.Author.Tests.{le-leb, lt-leb}
+use Rattle.base.proofs.Prelude.{le-leb, lt-leb}
 use Rattle.tables.proofs.Laws.{offset-ltb}
 use Rattle.tables.proofs.is_within.Statement.{statement}
 use Rattle.tables.proofs.is_within.Tie as tie

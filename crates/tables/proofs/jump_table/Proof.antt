@@ -1,8 +1,6 @@
 -- `tables::jump_table` meets its contract.
 use Rattle.tables.proofs.Laws.{jump-next, jump-found, jump-refused}
-use mathlib.Core.Logic.{⊎-elim}
-use mathlib.Core.Path.{_∙_}
-use borrow.Author.Needs.{needs}
+use Rattle.base.proofs.Prelude.{_∙_, ⊎-elim, needs}
 use Rattle.tables.proofs.jump_table.Statement.{statement}
 use Rattle.tables.proofs.jump_table.Tie as tie
 

@@ -1,5 +1,5 @@
 -- `tables::on_unless_refused` meets its contract.
-use borrow.Author.Tests.{eq-eqb, ne-eqb}
+use Rattle.base.proofs.Prelude.{eq-eqb, ne-eqb}
 use Rattle.tables.proofs.on_unless_refused.Statement.{statement}
 use Rattle.tables.proofs.on_unless_refused.Tie as tie
 

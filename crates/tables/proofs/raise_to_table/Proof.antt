@@ -6,9 +6,7 @@ use Rattle.context.specs.State.{World, read, contextOf, progressed}
 use Rattle.context.specs.Context.{raising, tableTo}
 use Rattle.context.specs.Blocks.{raisedToTable}
 use native.Mathlib.Nat.{max-zero}
-use mathlib.Core.Logic.{⊎-elim}
-use mathlib.Core.Path.{_≡_, refl, ap, _∙_}
-use borrow.Author.Needs.{needs}
+use Rattle.base.proofs.Prelude.{_∙_, refl, _≡_, ap, ⊎-elim, needs}
 use Rattle.tables.proofs.raise_to_table.Statement.{statement}
 use Rattle.tables.proofs.raise_to_table.Tie as tie
 

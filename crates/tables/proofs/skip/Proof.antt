@@ -1,7 +1,5 @@
 -- `tables::skip` meets its contract.
-use mathlib.Core.Logic.{⊎-elim}
-use mathlib.Core.Path.{refl}
-use borrow.Author.Needs.{needs}
+use Rattle.base.proofs.Prelude.{refl, ⊎-elim, needs}
 use Rattle.tables.proofs.skip.Statement.{statement}
 use Rattle.tables.proofs.skip.Tie as tie
 

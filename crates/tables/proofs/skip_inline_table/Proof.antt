@@ -3,10 +3,7 @@ use Rattle.tables.proofs.Laws.{skipped-table}
 use Rattle.rows.proofs.MapLaws.{map-length}
 use Rattle.context.specs.Context.{tableRow}
 use Rattle.context.specs.Blocks.{skipInlineTable}
-use native.Mathlib.Omega.{arith}
-use denote.Ref.{now}
-use mathlib.Core.Logic.{⊎-elim}
-use borrow.Author.Needs.{needs}
+use Rattle.base.proofs.Prelude.{⊎-elim, arith, needs, now}
 use Rattle.tables.proofs.skip_inline_table.Statement.{statement}
 use Rattle.tables.proofs.skip_inline_table.Tie as tie
 

@@ -1,7 +1,6 @@
 -- `tables::skip_pool` meets its contract.
 use Rattle.context.specs.Blocks.{skipPool}
-use mathlib.Core.Logic.{⊎-elim}
-use borrow.Author.Needs.{needs}
+use Rattle.base.proofs.Prelude.{⊎-elim, needs}
 use Rattle.tables.proofs.skip_pool.Statement.{statement}
 use Rattle.tables.proofs.skip_pool.Tie as tie
 

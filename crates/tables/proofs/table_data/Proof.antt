@@ -1,8 +1,5 @@
 -- `tables::table_data` meets its contract.
-use native.Mathlib.Omega.{arith}
-use Prim.Native.Nat.{_+_}
-use borrow.Author.Tests.{le-ltb, lt-ltb}
-use borrow.Author.Needs.{needs}
+use Rattle.base.proofs.Prelude.{_+_, arith, needs, lt-ltb, le-ltb}
 use Rattle.tables.proofs.table_data.Statement.{statement}
 use Rattle.tables.proofs.table_data.Tie as tie
 

@@ -1,9 +1,7 @@
 -- `text::decimal_len` meets its contract. The loop's invariant: `rest` is the value without its last n digits, and the value has at least n.
 -- The measure is `rest`.
 -- Assumes nothing.
-use mathlib.Core.Path.{_≡_, refl}
-use Prim.Native.Nat.{_+_, _-_, _/_, _^_, _≤_, _<_}
-use native.Mathlib.Omega.{arith}
+use Rattle.base.proofs.Prelude.{refl, _≡_, _≤_, _+_, _<_, _-_, _^_, _/_, arith}
 use Rattle.text.proofs.Hex.{digits-length, shift-more}
 use Rattle.text.proofs.Decimal.{some-left, none-left, few-digits, decimal-is}
 use Rattle.text.proofs.decimal_len.Statement.{statement}

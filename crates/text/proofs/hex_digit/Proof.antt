@@ -1,7 +1,5 @@
 -- `text::hex_digit` meets its contract: each branch is one of the two runs of digits. Assumes nothing.
-use borrow.Author.Needs.{needs}
-use borrow.Author.Tests.{lt-ltb, le-ltb}
-use native.Mathlib.Omega.{arith}
+use Rattle.base.proofs.Prelude.{arith, needs, lt-ltb, le-ltb}
 use Rattle.text.specs.Hex.{hexDigit}
 use Rattle.text.proofs.hex_digit.Statement.{statement}
 use Rattle.text.proofs.hex_digit.Tie as tie

@@ -1,7 +1,5 @@
 -- `text::put_byte` meets its contract: a store is a piece of one byte. Assumes nothing.
-use mathlib.Core.Path.{refl}
-use borrow.Author.Needs.{needs}
-use native.Mathlib.Omega.{arith}
+use Rattle.base.proofs.Prelude.{refl, arith, needs}
 use Rattle.text.proofs.Put.{set-put}
 use Rattle.text.proofs.put_byte.Statement.{statement}
 use Rattle.text.proofs.put_byte.Tie as tie

@@ -1,10 +1,6 @@
 -- `text::put_bytes` meets its contract. The loop's invariant: the first i bytes are written. The measure is how many are left.
 -- Assumes nothing.
-use mathlib.Core.Path.{_≡_, refl, sym, _∙_}
-use Prim.Native.Nat.{_-_, _≤_, zero-le}
-use native.Mathlib.Omega.{arith}
-use borrow.Author.Needs.{needs}
-use lib.ListN.{length, take, length-set}
+use Rattle.base.proofs.Prelude.{_∙_, sym, refl, _≡_, _≤_, _-_, zero-le, arith, length, take, length-set, needs}
 use lib.Seq.{take-length}
 use Rattle.text.specs.Put.{put}
 use Rattle.text.proofs.Put.{put-nil, put-take}

@@ -1,5 +1,5 @@
 -- `text::put_decimal` meets its contract: the text is as many digits as it is long. Assumes nothing.
-use borrow.Author.Needs.{needs}
+use Rattle.base.proofs.Prelude.{needs}
 use Rattle.text.proofs.Decimal.{decimal-digits}
 use Rattle.text.proofs.put_decimal.Statement.{statement}
 use Rattle.text.proofs.put_decimal.Tie as tie

@@ -1,12 +1,8 @@
 -- `text::put_digits` meets its contract. The loop's invariant: the last digits, all but the first `left`, are written, and `rest` is the value
 -- without them. The measure is `left`.
 -- Assumes nothing.
-use mathlib.Core.Path.{_≡_, refl, sym, _∙_}
-use Prim.Native.Nat.{_+_, _-_, _/_, _^_, _≤_}
+use Rattle.base.proofs.Prelude.{_∙_, sym, refl, _≡_, _≤_, _+_, _-_, _^_, _/_, arith, length, length-set, needs}
 use native.Mathlib.Nat.{pow-zero, div-one, mod-lt}
-use native.Mathlib.Omega.{arith}
-use borrow.Author.Needs.{needs}
-use lib.ListN.{length, length-set}
 use Rattle.text.specs.Put.{put}
 use Rattle.text.specs.Hex.{digits}
 use Rattle.text.proofs.Put.{put-nil}

@@ -1,5 +1,5 @@
 -- `text::put_hex` meets its contract: it is `put_digits` in base 16. Assumes nothing.
-use borrow.Author.Needs.{needs}
+use Rattle.base.proofs.Prelude.{needs}
 use Rattle.text.specs.Hex.{hex}
 use Rattle.text.proofs.put_hex.Statement.{statement}
 use Rattle.text.proofs.put_hex.Tie as tie

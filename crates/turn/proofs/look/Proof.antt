@@ -1,9 +1,7 @@
 -- `turn::look` meets its contract.
-use mathlib.Core.Path.{_≡_, refl, sym, ap, _∙_}
-use denote.Ref.{now}
+use Rattle.base.proofs.Prelude.{_∙_, sym, refl, _≡_, ap, needs, now}
 use Rattle.context.specs.Lists.{lists}
 use Rattle.turn.proofs.Laws.{looks-settled, looks-missing, word-fits}
-use borrow.Author.Needs.{needs}
 use Rattle.turn.proofs.look.Statement.{statement}
 use Rattle.turn.proofs.look.Tie as tie
 
@@ -28,8 +26,8 @@ settle-requires c κs = search needs
 enum-told : tie.Need-enum-told
 enum-told c = search needs
 
-refused-requires : tie.Need-refused-requires
-refused-requires c κs = search needs
+refused-walk-requires : tie.Need-refused-walk-requires
+refused-walk-requires c κs = search needs
 
 same-length : tie.Need-same-length
 same-length c = search needs
@@ -50,7 +48,7 @@ returns : tie.Need-returns
 returns c = looks-settled (c .before .before .before .before .before .before .before .before .before .before .before .before .before .before .before .before .before .before .before .before .before .before .before .before .before .before .before .before .before .before .before .before .args .o) (now (c .before .before .before .before .before .before .before .before .before .before .before .before .before .before .before .before .before .before .before .before .before .before .before .before .before .before .before .before .before .before .before .before .args .code)) (now (c .before .before .before .before .before .before .before .before .before .before .before .before .before .before .before .before .before .before .before .before .before .before .before .before .before .before .before .before .before .before .before .before .args .starts)) (c .before .before .before .before .before .before .before .before .before .before .before .before .before .before .before .before .before .before .before .before .before .before .before .before .before .before .before .before .before .before .before .before .args .w) (lists (now (c .before .before .before .before .before .before .before .before .before .before .before .before .before .before .before .before .before .before .before .before .before .before .before .before .before .before .before .before .before .before .before .before .args .labels)) (now (c .before .before .before .before .before .before .before .before .before .before .before .before .before .before .before .before .before .before .before .before .before .before .before .before .before .before .before .before .before .before .before .before .args .pools)) (now (c .before .before .before .before .before .before .before .before .before .before .before .before .before .before .before .before .before .before .before .before .before .before .before .before .before .before .before .before .before .before .before .before .args .jump-tables)) (now (c .before .before .before .before .before .before .before .before .before .before .before .before .before .before .before .before .before .before .before .before .before .before .before .before .before .before .before .before .before .before .before .before .args .inline-tables)) (now (c .before .before .before .before .before .before .before .before .before .before .before .before .before .before .before .before .before .before .before .before .before .before .before .before .before .before .before .before .before .before .before .before .args .calls))) (sym (c .before .before .before .before .before .before .before .before .before .before .before .before .before .before .before .before .before .before .before .before .before .before .before .word-from .ensures) ∙ c .before .before .before .before .before .before .before .before .before .before .before .before .before .before .before .before .before .before .before .before .before .word .given .1) (rw (c .before .before .before .before .before .before .before .before .before .before .before .before .before .before .before .before .before .before .before .state-of .ensures, c .before .before .before .before .before .before .before .before .before .before .before .before .before .before .before .before .before .before .decode .ensures) at (c .before .before .before .before .before .before .before .before .before .before .before .before .handle-ins .ensures)) (c .settle .ensures)
 
 returns-2 : tie.Need-returns-2
-returns-2 c = looks-missing (c .before .before .before .before .before .before .before .before .before .before .before .before .before .args .o) (now (c .before .before .before .before .before .before .before .before .before .before .before .before .before .args .code)) (now (c .before .before .before .before .before .before .before .before .before .before .before .before .before .args .starts)) (c .before .before .before .before .before .before .before .before .before .before .before .before .before .args .w) (lists (now (c .before .before .before .before .before .before .before .before .before .before .before .before .before .args .labels)) (now (c .before .before .before .before .before .before .before .before .before .before .before .before .before .args .pools)) (now (c .before .before .before .before .before .before .before .before .before .before .before .before .before .args .jump-tables)) (now (c .before .before .before .before .before .before .before .before .before .before .before .before .before .args .inline-tables)) (now (c .before .before .before .before .before .before .before .before .before .before .before .before .before .args .calls))) (sym (c .before .before .before .before .word-from .ensures) ∙ c .before .before .enum-told .given .1) (c .before .before .before .before .before .before .before .before .before .before .before .before .before .pre .2) (c .refused .ensures)
+returns-2 c = looks-missing (c .before .before .before .before .before .before .before .before .before .before .before .before .before .args .o) (now (c .before .before .before .before .before .before .before .before .before .before .before .before .before .args .code)) (now (c .before .before .before .before .before .before .before .before .before .before .before .before .before .args .starts)) (c .before .before .before .before .before .before .before .before .before .before .before .before .before .args .w) (lists (now (c .before .before .before .before .before .before .before .before .before .before .before .before .before .args .labels)) (now (c .before .before .before .before .before .before .before .before .before .before .before .before .before .args .pools)) (now (c .before .before .before .before .before .before .before .before .before .before .before .before .before .args .jump-tables)) (now (c .before .before .before .before .before .before .before .before .before .before .before .before .before .args .inline-tables)) (now (c .before .before .before .before .before .before .before .before .before .before .before .before .before .args .calls))) (sym (c .before .before .before .before .word-from .ensures) ∙ c .before .before .enum-told .given .1) (c .before .before .before .before .before .before .before .before .before .before .before .before .before .pre .2) (c .refused-walk .ensures)
 
 pub look-spec : {M : Type 1} → statement M
 look-spec =
@@ -63,7 +61,7 @@ look-spec =
     handle-ins-requires
     settle-requires
     enum-told
-    refused-requires
+    refused-walk-requires
     same-length
     same-length-2
     same-length-3

@@ -1,8 +1,7 @@
 -- `turn::turn` meets its contract.
 -- Assumes nothing.
-use mathlib.Core.Path.{_≡_, refl, sym, ap, _∙_}
+use Rattle.base.proofs.Prelude.{_∙_, sym, refl, _≡_, ap, needs}
 use Rattle.turn.proofs.Laws.{turns-cleared, turns-on}
-use borrow.Author.Needs.{needs}
 use Rattle.turn.proofs.turn.Statement.{statement}
 use Rattle.turn.proofs.turn.Tie as tie
 

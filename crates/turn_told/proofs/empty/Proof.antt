@@ -1,6 +1,6 @@
 -- `turn_told::empty` meets its contract.
 -- Assumes nothing.
-use borrow.Author.Needs.{needs}
+use Rattle.base.proofs.Prelude.{needs}
 use Rattle.turn_told.proofs.empty.Statement.{statement}
 use Rattle.turn_told.proofs.empty.Tie as tie
 

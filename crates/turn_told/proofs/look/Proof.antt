@@ -1,10 +1,8 @@
 -- `turn_told::look` meets its contract.
-use mathlib.Core.Path.{sym, _∙_}
-use denote.Ref.{now}
+use Rattle.base.proofs.Prelude.{_∙_, sym, needs, now}
 use Rattle.turn.proofs.Laws.{word-fits}
 use Rattle.turn_told.proofs.Laws.{look-pools, look-found, look-missing}
 use Rattle.turn_told.specs.Told.{others}
-use borrow.Author.Needs.{needs}
 use Rattle.turn_told.proofs.look.Statement.{statement}
 use Rattle.turn_told.proofs.look.Tie as tie
 
@@ -23,20 +21,20 @@ inner-requires c κs = let start = c .before .before .before .before .before .be
 put-call-requires : tie.Need-put-call-requires
 put-call-requires c κs = search needs
 
-entered-requires : tie.Need-entered-requires
-entered-requires c κs = search needs
+with-entry-requires : tie.Need-with-entry-requires
+with-entry-requires c κs = search needs
 
 pass-requires : tie.Need-pass-requires
 pass-requires c κs = search needs
 
 settle-requires : tie.Need-settle-requires
-settle-requires c κs = let start = c .before .before .before .before .before .before .before .before .before .before .before .before .before .before .before .before .before .before .before .before .before .before .before .before .before .before .before .before .before .before .before .before in look-pools (start .args .o) (now (start .args .code)) (now (start .args .starts)) (start .args .w) (start .args .told) (others (now (start .args .labels)) (now (start .args .pools)) (now (start .args .jump-tables)) (now (start .args .inline-tables))) (others _ _ _ _) _ _ (start .pre .2) (c .before .before .before .before .before .before .before .before .before .before .before .before .before .before .before .before .inner .ensures) (c .before .before .before .before .before .put-call .result .entered) (c .before .before .entered .ensures) (c .before .pass .ensures)
+settle-requires c κs = let start = c .before .before .before .before .before .before .before .before .before .before .before .before .before .before .before .before .before .before .before .before .before .before .before .before .before .before .before .before .before .before .before .before in look-pools (start .args .o) (now (start .args .code)) (now (start .args .starts)) (start .args .w) (start .args .told) (others (now (start .args .labels)) (now (start .args .pools)) (now (start .args .jump-tables)) (now (start .args .inline-tables))) (others _ _ _ _) _ _ (start .pre .2) (c .before .before .before .before .before .before .before .before .before .before .before .before .before .before .before .before .inner .ensures) (c .before .before .before .before .before .put-call .result .entered) (c .before .before .with-entry .ensures) (c .before .pass .ensures)
 
 enum-told : tie.Need-enum-told
 enum-told c = search needs
 
-refused-requires : tie.Need-refused-requires
-refused-requires c κs = search needs
+refused-walk-requires : tie.Need-refused-walk-requires
+refused-walk-requires c κs = search needs
 
 clear-requires : tie.Need-clear-requires
 clear-requires c κs = search needs
@@ -54,10 +52,10 @@ same-length-4 : tie.Need-same-length-4
 same-length-4 c = c .before .before .before .before .before .before .before .before .before .before .before .before .before .before .before .before .before .inner .kept .1 .1 .1 .1 .1 .1 .1 .1 .1 .1 .0
 
 returns : tie.Need-returns
-returns c = let start = c .before .before .before .before .before .before .before .before .before .before .before .before .before .before .before .before .before .before .before .before .before .before .before .before .before .before .before .before .before .before .before .before .before in look-found (start .args .o) (now (start .args .code)) (now (start .args .starts)) (start .args .w) (start .args .told) (others (now (start .args .labels)) (now (start .args .pools)) (now (start .args .jump-tables)) (now (start .args .inline-tables))) (others _ _ _ _) _ _ (start .pre .2) (c .before .before .before .before .before .before .before .before .before .before .before .before .before .before .before .before .before .inner .ensures) (c .before .before .before .before .before .before .put-call .result) (start .pre .3) (sym (c .before .before .before .before .before .before .before .before .before .before .before .before .before .before .before .before .before .before .before .before .before .before .before .before .before .before .word-from .ensures) ∙ c .before .before .before .before .before .before .before .before .before .before .before .before .before .before .before .before .before .before .before .before .before .before .before .before .word .given .1) (c .before .before .before .before .before .before .before .before .before .before .before .before .before .before .before .before .before .before .before .before .before .before .decode .ensures) (c .before .before .before .before .before .before .put-call .ensures) (c .before .before .before .entered .ensures) (c .before .before .pass .ensures) (c .settle .ensures)
+returns c = let start = c .before .before .before .before .before .before .before .before .before .before .before .before .before .before .before .before .before .before .before .before .before .before .before .before .before .before .before .before .before .before .before .before .before in look-found (start .args .o) (now (start .args .code)) (now (start .args .starts)) (start .args .w) (start .args .told) (others (now (start .args .labels)) (now (start .args .pools)) (now (start .args .jump-tables)) (now (start .args .inline-tables))) (others _ _ _ _) _ _ (start .pre .2) (c .before .before .before .before .before .before .before .before .before .before .before .before .before .before .before .before .before .inner .ensures) (c .before .before .before .before .before .before .put-call .result) (start .pre .3) (sym (c .before .before .before .before .before .before .before .before .before .before .before .before .before .before .before .before .before .before .before .before .before .before .before .before .before .before .word-from .ensures) ∙ c .before .before .before .before .before .before .before .before .before .before .before .before .before .before .before .before .before .before .before .before .before .before .before .before .word .given .1) (c .before .before .before .before .before .before .before .before .before .before .before .before .before .before .before .before .before .before .before .before .before .before .decode .ensures) (c .before .before .before .before .before .before .put-call .ensures) (c .before .before .before .with-entry .ensures) (c .before .before .pass .ensures) (c .settle .ensures)
 
 returns-2 : tie.Need-returns-2
-returns-2 c = let start = c .before .before .before .before .before .before .before .before .before .before .before .before in look-missing _ _ (now (start .args .starts)) (start .args .w) _ _ (start .pre .2) (start .pre .3) (sym (c .before .before .before .before .before .word-from .ensures) ∙ c .before .before .before .enum-told .given .1) (c .before .refused .ensures) (c .clear .ensures)
+returns-2 c = let start = c .before .before .before .before .before .before .before .before .before .before .before .before in look-missing _ _ (now (start .args .starts)) (start .args .w) _ _ (start .pre .2) (start .pre .3) (sym (c .before .before .before .before .before .word-from .ensures) ∙ c .before .before .before .enum-told .given .1) (c .before .refused-walk .ensures) (c .clear .ensures)
 
 pub look-spec : {M : Type 1} → statement M
 look-spec =
@@ -68,11 +66,11 @@ look-spec =
     decode-requires
     inner-requires
     put-call-requires
-    entered-requires
+    with-entry-requires
     pass-requires
     settle-requires
     enum-told
-    refused-requires
+    refused-walk-requires
     clear-requires
     same-length
     same-length-2

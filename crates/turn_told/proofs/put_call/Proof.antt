@@ -1,12 +1,10 @@
 -- `turn_told::put_call` meets its contract.
 -- Assumes nothing.
-use mathlib.Core.Path.{refl}
-use mathlib.Core.Bool.{false}
+use Rattle.base.proofs.Prelude.{refl, false, needs}
 use Rattle.calls.specs.Records.{numbersOf, none}
 use Rattle.calls.proofs.EditLaws.{rewritten-none}
 use Rattle.handle_ins.proofs.Laws.{stores-call}
 use Rattle.turn_told.proofs.Laws.{stores-nothing}
-use borrow.Author.Needs.{needs}
 use Rattle.turn_told.proofs.put_call.Statement.{statement}
 use Rattle.turn_told.proofs.put_call.Tie as tie
 

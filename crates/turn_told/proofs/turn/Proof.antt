@@ -1,9 +1,7 @@
 -- `turn_told::turn` meets its contract.
 -- Assumes nothing.
-use mathlib.Core.Path.{sym, _∙_}
-use denote.Ref.{now}
+use Rattle.base.proofs.Prelude.{_∙_, sym, needs, now}
 use Rattle.turn_told.proofs.Laws.{turn-on, turn-over}
-use borrow.Author.Needs.{needs}
 use Rattle.turn_told.proofs.turn.Statement.{statement}
 use Rattle.turn_told.proofs.turn.Tie as tie
 

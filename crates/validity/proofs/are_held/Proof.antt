@@ -1,19 +1,13 @@
 -- `validity::are_held` meets its contract.
 -- Assumes nothing.
-use mathlib.Core.Path.{_≡_, refl, sym, ap, _∙_}
-use mathlib.Core.Logic.{⊎-elim}
-use Prim.Native.Nat.{_-_, _≤_}
-use borrow.Author.Tests.{le-leb, lt-leb, eq-eqb, ne-eqb, not-true, not-false}
-use lib.ListN.{length, drop}
+use Rattle.base.proofs.Prelude.{_∙_, sym, refl, _≡_, ap, ⊎-elim, _≤_, _-_, arith, length, drop, needs, eq-eqb, ne-eqb, le-leb, not-false, not-true}
+use Rattle.base.proofs.Prelude.{lt-leb, now}
 use Rattle.validity.specs.Validity.{areHeld}
 use Rattle.validity.proofs.Laws.{held-zero, held-next, held-not, held-done}
 use Rattle.context.specs.Context.{poolRow}
 use Rattle.rows.specs.Map.{mapIn}
-use denote.Ref.{now}
 use Rattle.validity.proofs.are_held.Statement.{statement}
 use Rattle.validity.proofs.are_held.Tie as tie
-use borrow.Author.Needs.{needs}
-use native.Mathlib.Omega.{arith}
 
 abbrev Inv-loop : tie.InvT-loop
 Inv-loop pools count sources r₀ r = (length sources ≡ 16) × (r ≤ 16) × (areHeld (drop r sources) (mapIn poolRow count pools) ≡ areHeld sources (mapIn poolRow count pools))

@@ -1,10 +1,8 @@
 -- `validity::are_lists` meets its contract.
 -- Assumes nothing.
-use mathlib.Core.Path.{_≡_, refl, sym, ap, _∙_}
-use borrow.Author.Tests.{le-leb, lt-leb, eq-eqb, ne-eqb, not-true, not-false}
+use Rattle.base.proofs.Prelude.{_∙_, sym, refl, _≡_, ap, needs, eq-eqb, ne-eqb, le-leb, not-true, not-false, lt-leb}
 use Rattle.validity.specs.Validity.{areLists}
 use Rattle.validity.proofs.Laws.{order-held}
-use borrow.Author.Needs.{needs}
 use Rattle.validity.proofs.are_lists.Statement.{statement}
 use Rattle.validity.proofs.are_lists.Tie as tie
 

@@ -1,7 +1,7 @@
 -- `validity::are_starts` meets its contract.
 -- Assumes nothing.
 use Rattle.validity.specs.Validity.{areStarts}
-use borrow.Author.Needs.{needs}
+use Rattle.base.proofs.Prelude.{needs}
 use Rattle.validity.proofs.are_starts.Statement.{statement}
 use Rattle.validity.proofs.are_starts.Tie as tie
 

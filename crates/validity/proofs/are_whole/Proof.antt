@@ -1,19 +1,14 @@
 -- `validity::are_whole` meets its contract.
 -- Assumes nothing.
-use mathlib.Core.Path.{_≡_, refl, sym, ap, _∙_}
-use Prim.Native.Nat.{_-_, _≤_}
-use borrow.Author.Tests.{le-leb, lt-leb, eq-eqb, ne-eqb, not-true, not-false}
-use lib.ListN.{length, drop}
+use Rattle.base.proofs.Prelude.{_∙_, sym, refl, _≡_, ap, _≤_, _-_, arith, length, drop, needs, eq-eqb, ne-eqb, le-leb, not-true, not-false, lt-leb}
+use Rattle.base.proofs.Prelude.{now}
 use Rattle.rows.proofs.MapLaws.{map-length}
 use Rattle.validity.specs.Validity.{isWhole, areWhole}
 use Rattle.validity.proofs.Laws.{whole-not, whole-next, whole-done}
 use Rattle.context.specs.Context.{poolRow}
 use Rattle.rows.specs.Map.{mapIn}
-use denote.Ref.{now}
 use Rattle.validity.proofs.are_whole.Statement.{statement}
 use Rattle.validity.proofs.are_whole.Tie as tie
-use borrow.Author.Needs.{needs}
-use native.Mathlib.Omega.{arith}
 
 abbrev Inv-loop : tie.InvT-loop
 Inv-loop base length pools count i₀ i = (i ≤ count) × (areWhole base length (drop i (mapIn poolRow count pools)) ≡ areWhole base length (mapIn poolRow count pools))

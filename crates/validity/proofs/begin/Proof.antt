@@ -1,9 +1,7 @@
 -- `validity::begin` meets its contract.
 -- Assumes nothing.
-use mathlib.Core.Path.{_≡_, refl, sym, ap, _∙_}
-use borrow.Author.Tests.{le-leb, lt-leb, eq-eqb, ne-eqb, not-true, not-false}
+use Rattle.base.proofs.Prelude.{_∙_, sym, refl, _≡_, ap, needs, eq-eqb, ne-eqb, le-leb, not-true, not-false, lt-leb}
 use Rattle.validity.specs.Validity.{beginNumber}
-use borrow.Author.Needs.{needs}
 use Rattle.validity.proofs.begin.Statement.{statement}
 use Rattle.validity.proofs.begin.Tie as tie
 

@@ -1,13 +1,10 @@
 -- `validity::is_in_code` meets its contract.
 -- Assumes nothing.
-use borrow.Author.Tests.{le-leb, lt-leb, eq-eqb, ne-eqb, not-true, not-false}
+use Rattle.base.proofs.Prelude.{_+_, _-_, arith, needs, eq-eqb, ne-eqb, le-leb, not-false, not-true, lt-leb}
 use Rattle.validity.specs.Validity.{isInCode}
 use Rattle.validity.proofs.Laws.{same-leb}
-use Prim.Native.Nat.{_+_, _-_}
-use borrow.Author.Needs.{needs}
 use Rattle.validity.proofs.is_in_code.Statement.{statement}
 use Rattle.validity.proofs.is_in_code.Tie as tie
-use native.Mathlib.Omega.{arith}
 
 returns : tie.Need-returns
 unfolding isInCode

@@ -1,13 +1,10 @@
 -- `validity::is_whole` meets its contract.
 -- Assumes nothing.
-use borrow.Author.Tests.{le-leb, lt-leb, eq-eqb, ne-eqb, not-true, not-false}
+use Rattle.base.proofs.Prelude.{_+_, _-_, arith, needs, eq-eqb, ne-eqb, le-leb, not-false, not-true, lt-leb}
 use Rattle.validity.specs.Validity.{isWhole}
 use Rattle.validity.proofs.Laws.{same-leb}
-use Prim.Native.Nat.{_+_, _-_}
-use borrow.Author.Needs.{needs}
 use Rattle.validity.proofs.is_whole.Statement.{statement}
 use Rattle.validity.proofs.is_whole.Tie as tie
-use native.Mathlib.Omega.{arith}
 
 returns : tie.Need-returns
 unfolding isWhole

@@ -1,12 +1,9 @@
 -- `validity::is_window` meets its contract.
 -- Assumes nothing.
-use borrow.Author.Tests.{le-leb, lt-leb, eq-eqb, ne-eqb, not-true, not-false}
+use Rattle.base.proofs.Prelude.{_+_, arith, needs, eq-eqb, ne-eqb, le-leb, not-false, not-true, lt-leb}
 use Rattle.validity.specs.Validity.{high, isWindow}
-use Prim.Native.Nat.{_+_}
-use borrow.Author.Needs.{needs}
 use Rattle.validity.proofs.is_window.Statement.{statement}
 use Rattle.validity.proofs.is_window.Tie as tie
-use native.Mathlib.Omega.{arith}
 
 returns : tie.Need-returns
 unfolding isWindow

@@ -1,6 +1,6 @@
 -- `validity::last_pool` meets its contract.
 -- Assumes nothing.
-use borrow.Author.Needs.{needs}
+use Rattle.base.proofs.Prelude.{needs}
 use Rattle.validity.proofs.last_pool.Statement.{statement}
 use Rattle.validity.proofs.last_pool.Tie as tie
 

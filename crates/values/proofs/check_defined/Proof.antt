@@ -1,8 +1,6 @@
 -- `values::check_defined` meets its contract.
-use mathlib.Core.Path.{refl}
-use borrow.Author.Tests.{lt-ltb, le-ltb}
+use Rattle.base.proofs.Prelude.{refl, needs, lt-ltb, le-ltb}
 use Rattle.context.specs.Blocks.{checkDefined}
-use borrow.Author.Needs.{needs}
 use Rattle.values.proofs.check_defined.Statement.{statement}
 use Rattle.values.proofs.check_defined.Tie as tie
 

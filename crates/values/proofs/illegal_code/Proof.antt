@@ -1,7 +1,6 @@
 -- `values::illegal_code` meets its contract.
-use mathlib.Core.Path.{refl}
+use Rattle.base.proofs.Prelude.{refl, needs}
 use Rattle.context.specs.Blocks.{illegalCode}
-use borrow.Author.Needs.{needs}
 use Rattle.values.proofs.illegal_code.Statement.{statement}
 use Rattle.values.proofs.illegal_code.Tie as tie
 

@@ -1,12 +1,9 @@
 -- `values::mark` meets its contract.
-use mathlib.Core.Path.{sym, _∙_}
-use denote.Ref.{now}
+use Rattle.base.proofs.Prelude.{_∙_, sym, arith, needs, now}
 use Rattle.values.proofs.Laws.{found-within, mark-found, mark-missing}
 use Rattle.context.specs.Context.{poolRow}
-use borrow.Author.Needs.{needs}
 use Rattle.values.proofs.mark.Statement.{statement}
 use Rattle.values.proofs.mark.Tie as tie
-use native.Mathlib.Omega.{arith}
 
 index-of-requires : tie.Need-index-of-requires
 index-of-requires c κs = search needs

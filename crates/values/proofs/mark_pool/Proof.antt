@@ -1,9 +1,7 @@
 -- `values::mark_pool` meets its contract.
-use mathlib.Core.Path.{refl, sym, _∙_}
-use borrow.Author.Tests.{not-true, not-false, eq-eqb}
+use Rattle.base.proofs.Prelude.{_∙_, sym, refl, needs, eq-eqb, not-false, not-true}
 use Rattle.context.specs.Blocks.{markPool}
 use Rattle.values.proofs.Laws.{marks}
-use borrow.Author.Needs.{needs}
 use Rattle.values.proofs.mark_pool.Statement.{statement}
 use Rattle.values.proofs.mark_pool.Tie as tie
 

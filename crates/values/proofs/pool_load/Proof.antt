@@ -1,10 +1,7 @@
 -- `values::pool_load` meets its contract.
-use mathlib.Core.Path.{refl, sym, _∙_}
-use borrow.Author.Tests.{not-true, not-false}
-use denote.Ref.{now}
+use Rattle.base.proofs.Prelude.{_∙_, sym, refl, needs, not-false, not-true, now}
 use Rattle.context.specs.Blocks.{poolLoad}
 use Rattle.values.proofs.Laws.{pool-full, pool-in}
-use borrow.Author.Needs.{needs}
 use Rattle.values.proofs.pool_load.Statement.{statement}
 use Rattle.values.proofs.pool_load.Tie as tie
 

@@ -1,9 +1,7 @@
 -- `run` meets its contract: by whether the begin went on.
 -- Assumes nothing.
-use mathlib.Core.Path.{sym, _∙_}
-use borrow.Author.Tests.{not-true, not-false}
+use Rattle.base.proofs.Prelude.{_∙_, sym, needs, not-false, not-true}
 use Rattle.whole.proofs.WholeLaws.{run-refused, run-may, run-on}
-use borrow.Author.Needs.{needs}
 use Rattle.whole.proofs.run.Statement.{statement}
 use Rattle.whole.proofs.run.Tie as tie
 

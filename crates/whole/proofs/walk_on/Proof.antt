@@ -1,15 +1,13 @@
 -- `walk_on` meets its contract. The loop's invariant: so many turns have led here. The measure is what is left of the address space, and nothing
 -- once the walk has a result.
 -- Assumes nothing.
-use mathlib.Core.Path.{_≡_, refl, sym, ap, _∙_}
+use Rattle.base.proofs.Prelude.{_∙_, sym, refl, _≡_, ap, arith, needs}
 use Rattle.context.specs.Lists.{lists}
-use Rattle.stepper.specs.Calls.{isGoing}
+use Rattle.stepper.specs.Stepper.{isGoing}
 use Rattle.walk.specs.declared.Counts.{Counts}
 use Rattle.whole.proofs.OnLaws.{On, left, on-start, on-more, on-less, on-end}
 use Rattle.whole.proofs.walk_on.Statement.{statement}
 use Rattle.whole.proofs.walk_on.Tie as tie
-use borrow.Author.Needs.{needs}
-use native.Mathlib.Omega.{arith}
 
 abbrev Inv-loop : tie.InvT-loop
 Inv-loop o code starts labels₀ pools₀ jump-tables₀ inline-tables₀ calls₀ here₀ result₀ labels pools jump-tables inline-tables calls here result =

@@ -1,6 +1,6 @@
 -- `words::class_text` meets its contract, which is that of `put_text` at one text.
 -- Assumes nothing.
-use borrow.Author.Needs.{needs}
+use Rattle.base.proofs.Prelude.{needs}
 use Rattle.words.specs.Answer.{classTextOf}
 use Rattle.words.proofs.class_text.Statement.{statement}
 use Rattle.words.proofs.class_text.Tie as tie

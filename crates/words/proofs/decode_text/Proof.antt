@@ -1,6 +1,6 @@
 -- `words::decode_text` meets its contract, which is that of `put_text` at one text.
 -- Assumes nothing.
-use borrow.Author.Needs.{needs}
+use Rattle.base.proofs.Prelude.{needs}
 use Rattle.words.specs.Answer.{textOf}
 use Rattle.words.proofs.decode_text.Statement.{statement}
 use Rattle.words.proofs.decode_text.Tie as tie

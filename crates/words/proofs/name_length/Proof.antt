@@ -1,7 +1,6 @@
 -- `words::name_length` meets its contract, by the rule of the table of names.
 -- Assumes nothing.
-use native.Mathlib.Omega.{arith}
-use borrow.Author.Needs.{needs}
+use Rattle.base.proofs.Prelude.{arith, needs}
 use Rattle.words.specs.Names.{bytes, names}
 use Rattle.words.proofs.Tables.{rows, name-length, name-short}
 use Rattle.words.proofs.name_length.Statement.{statement}

@@ -1,9 +1,6 @@
 -- `words::put_condition` meets its contract: the part of the table that it writes is the letters, by the table's rule.
 -- Assumes nothing.
-use Prim.Native.Nat.{_≤_}
-use native.Mathlib.Omega.{arith}
-use borrow.Author.Needs.{needs}
-use lib.ListN.{length}
+use Rattle.base.proofs.Prelude.{_≤_, arith, length, needs}
 use Rattle.text.proofs.Put.{written-then}
 use Rattle.words.specs.Names.{bytes, conditions}
 use Rattle.words.proofs.Tables.{letters, condition-part}

@@ -1,9 +1,6 @@
 -- `words::put_head` meets its contract: two writers, one after the other.
 -- Assumes nothing.
-use Prim.Native.Nat.{_≤_}
-use native.Mathlib.Omega.{arith}
-use borrow.Author.Needs.{needs}
-use lib.ListN.{length}
+use Rattle.base.proofs.Prelude.{_≤_, arith, length, needs}
 use Rattle.text.specs.Hex.{hex, digits}
 use Rattle.text.proofs.Put.{written-then}
 use Rattle.words.specs.Names.{nameOf}

@@ -1,10 +1,6 @@
 -- `words::put_line` meets its contract: its five writers, one after the other, write the line of the word that is decoded.
 -- Assumes nothing.
-use mathlib.Core.Path.{_≡_, ap, _∙_}
-use Prim.Native.Nat.{_/_, _^_, _≤_}
-use native.Mathlib.Omega.{arith}
-use borrow.Author.Needs.{needs}
-use lib.ListN.{length}
+use Rattle.base.proofs.Prelude.{_∙_, _≡_, ap, _≤_, _^_, _/_, arith, length, needs}
 use Rattle.text.specs.Hex.{hex, digits}
 use Rattle.text.proofs.Put.{written-then}
 use Rattle.arm.specs.declared.Ins.{Ins}

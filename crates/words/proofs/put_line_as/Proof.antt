@@ -1,6 +1,6 @@
 -- `words::put_line_as` meets its contract, by the line that is asked for.
 -- Assumes nothing.
-use borrow.Author.Needs.{needs}
+use Rattle.base.proofs.Prelude.{needs}
 use Rattle.words.proofs.put_line_as.Statement.{statement}
 use Rattle.words.proofs.put_line_as.Tie as tie
 

@@ -1,10 +1,6 @@
 -- `words::put_lines` meets its contract. The invariant: the lines of the first i words are written. The measure is how many words are left.
 -- Assumes nothing.
-use mathlib.Core.Path.{_≡_, refl}
-use Prim.Native.Nat.{_*_, _-_, _/_, _≤_, zero-le}
-use native.Mathlib.Omega.{arith}
-use borrow.Author.Needs.{needs}
-use lib.ListN.{length}
+use Rattle.base.proofs.Prelude.{refl, _≡_, _≤_, _-_, _*_, _/_, zero-le, arith, length, needs}
 use Rattle.text.specs.Put.{Written}
 use Rattle.text.proofs.Put.{written-then, written-none}
 use Rattle.words.specs.Lines.{lineAs, linesOf}

@@ -1,9 +1,6 @@
 -- `words::put_name` meets its contract: the part of the table that it writes is the name, by the table's rule.
 -- Assumes nothing.
-use Prim.Native.Nat.{_≤_}
-use native.Mathlib.Omega.{arith}
-use borrow.Author.Needs.{needs}
-use lib.ListN.{length}
+use Rattle.base.proofs.Prelude.{_≤_, arith, length, needs}
 use Rattle.text.proofs.Put.{written-then}
 use Rattle.words.specs.Names.{bytes, names}
 use Rattle.words.proofs.Tables.{rows, name-short, name-part}

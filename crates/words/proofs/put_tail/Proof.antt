@@ -1,9 +1,6 @@
 -- `words::put_tail` meets its contract: three writers, one after the other.
 -- Assumes nothing.
-use Prim.Native.Nat.{_≤_}
-use native.Mathlib.Omega.{arith}
-use borrow.Author.Needs.{needs}
-use lib.ListN.{length}
+use Rattle.base.proofs.Prelude.{_≤_, arith, length, needs}
 use Rattle.text.proofs.Put.{written-then}
 use Rattle.words.specs.Lines.{tailOf}
 use Rattle.words.proofs.put_tail.Statement.{statement}

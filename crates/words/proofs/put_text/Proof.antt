@@ -1,7 +1,6 @@
 -- `words::put_text` meets its contract, by which test it leaves: a refusal, too little room, or the lines.
 -- Assumes nothing.
-use native.Mathlib.Omega.{arith}
-use borrow.Author.Needs.{needs}
+use Rattle.base.proofs.Prelude.{arith, needs}
 use Rattle.words.proofs.Texts.{not-whole, too-long, whole, text-refused, room-refused, text-accepted, room-accepted, answered-none, answered-text}
 use Rattle.words.proofs.put_text.Statement.{statement}
 use Rattle.words.proofs.put_text.Tie as tie

@@ -1,7 +1,6 @@
 -- `words::refuse` meets its contract: too little room, or the line.
 -- Assumes nothing.
-use native.Mathlib.Omega.{arith}
-use borrow.Author.Needs.{needs}
+use Rattle.base.proofs.Prelude.{arith, needs}
 use Rattle.words.specs.Names.{bytes}
 use Rattle.words.specs.Answer.{refusal}
 use Rattle.words.proofs.Texts.{answered-none, answered-text}

@@ -1,6 +1,6 @@
 -- `words::word_at` meets its contract: the indices lie within the input.
 -- Assumes nothing.
-use borrow.Author.Needs.{needs}
+use Rattle.base.proofs.Prelude.{needs}
 use Rattle.words.specs.Lines.{wordAt}
 use Rattle.words.proofs.word_at.Statement.{statement}
 use Rattle.words.proofs.word_at.Tie as tie

@@ -1,8 +1,6 @@
 -- `add_r0_ip` meets its contract.
-use mathlib.Core.Path.{sym, _∙_}
-use borrow.Author.Tests.{eq-eqb, ne-eqb}
+use Rattle.base.proofs.Prelude.{_∙_, sym, needs, eq-eqb, ne-eqb}
 use Rattle.analysis.specs.FunctionBranch.{addR0Ip}
-use borrow.Author.Needs.{needs}
 use Rattle.analysis.proofs.function_branch.add_r0_ip.Statement.{statement}
 use Rattle.analysis.proofs.function_branch.add_r0_ip.Tie as tie
 

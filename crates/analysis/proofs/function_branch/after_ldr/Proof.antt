@@ -1,7 +1,6 @@
 -- `after_ldr` meets its contract.
-use mathlib.Core.Path.{sym, _∙_}
+use Rattle.base.proofs.Prelude.{_∙_, sym, needs}
 use Rattle.analysis.specs.FunctionBranch.{afterLdr}
-use borrow.Author.Needs.{needs}
 use Rattle.analysis.proofs.function_branch.after_ldr.Statement.{statement}
 use Rattle.analysis.proofs.function_branch.after_ldr.Tie as tie
 

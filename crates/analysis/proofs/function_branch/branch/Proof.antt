@@ -1,7 +1,6 @@
 -- `branch` meets its contract.
-use mathlib.Core.Path.{sym, _∙_}
+use Rattle.base.proofs.Prelude.{_∙_, sym, needs}
 use Rattle.analysis.specs.FunctionBranch.{beforeBranch}
-use borrow.Author.Needs.{needs}
 use Rattle.analysis.proofs.function_branch.branch.Statement.{statement}
 use Rattle.analysis.proofs.function_branch.branch.Tie as tie
 

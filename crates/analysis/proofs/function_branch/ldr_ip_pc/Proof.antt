@@ -1,8 +1,6 @@
 -- `ldr_ip_pc` meets its contract.
-use mathlib.Core.Path.{sym, _∙_}
-use borrow.Author.Tests.{eq-eqb, ne-eqb}
+use Rattle.base.proofs.Prelude.{_∙_, sym, needs, eq-eqb, ne-eqb}
 use Rattle.analysis.specs.FunctionBranch.{ldrIpPc}
-use borrow.Author.Needs.{needs}
 use Rattle.analysis.proofs.function_branch.ldr_ip_pc.Statement.{statement}
 use Rattle.analysis.proofs.function_branch.ldr_ip_pc.Tie as tie
 

@@ -1,7 +1,6 @@
 -- `mov_from_sp` meets its contract.
-use mathlib.Core.Path.{sym, _∙_}
+use Rattle.base.proofs.Prelude.{_∙_, sym, needs}
 use Rattle.analysis.specs.FunctionBranch.{movFromSp}
-use borrow.Author.Needs.{needs}
 use Rattle.analysis.proofs.function_branch.mov_from_sp.Statement.{statement}
 use Rattle.analysis.proofs.function_branch.mov_from_sp.Tie as tie
 

@@ -1,8 +1,6 @@
 -- `movge_pc_lr` meets its contract.
-use mathlib.Core.Path.{sym, _∙_}
-use borrow.Author.Tests.{eq-eqb, ne-eqb}
+use Rattle.base.proofs.Prelude.{_∙_, sym, needs, eq-eqb, ne-eqb}
 use Rattle.analysis.specs.FunctionBranch.{movgePcLr}
-use borrow.Author.Needs.{needs}
 use Rattle.analysis.proofs.function_branch.movge_pc_lr.Statement.{statement}
 use Rattle.analysis.proofs.function_branch.movge_pc_lr.Tie as tie
 

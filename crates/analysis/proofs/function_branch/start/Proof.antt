@@ -1,7 +1,6 @@
 -- `start` meets its contract.
-use mathlib.Core.Path.{sym, _∙_}
+use Rattle.base.proofs.Prelude.{_∙_, sym, needs}
 use Rattle.analysis.specs.FunctionBranch.{atStart}
-use borrow.Author.Needs.{needs}
 use Rattle.analysis.proofs.function_branch.start.Statement.{statement}
 use Rattle.analysis.proofs.function_branch.start.Tie as tie
 

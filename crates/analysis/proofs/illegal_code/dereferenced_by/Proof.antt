@@ -1,7 +1,6 @@
 -- `dereferenced_by` meets its contract.
-use mathlib.Core.Path.{sym, _∙_}
+use Rattle.base.proofs.Prelude.{_∙_, sym, needs}
 use Rattle.analysis.specs.IllegalCode.{dereferenced}
-use borrow.Author.Needs.{needs}
 use Rattle.analysis.proofs.illegal_code.dereferenced_by.Statement.{statement}
 use Rattle.analysis.proofs.illegal_code.dereferenced_by.Tie as tie
 

@@ -1,7 +1,6 @@
 -- `is_shift` meets its contract.
-use mathlib.Core.Path.{sym, _∙_}
+use Rattle.base.proofs.Prelude.{_∙_, sym, needs}
 use Rattle.analysis.specs.IllegalCode.{isShift}
-use borrow.Author.Needs.{needs}
 use Rattle.analysis.proofs.illegal_code.is_shift.Statement.{statement}
 use Rattle.analysis.proofs.illegal_code.is_shift.Tie as tie
 

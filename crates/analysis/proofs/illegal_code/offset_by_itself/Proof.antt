@@ -1,7 +1,6 @@
 -- `offset_by_itself` meets its contract.
-use mathlib.Core.Path.{sym, _∙_}
+use Rattle.base.proofs.Prelude.{_∙_, sym, needs}
 use Rattle.analysis.specs.IllegalCode.{offsetByItself}
-use borrow.Author.Needs.{needs}
 use Rattle.analysis.proofs.illegal_code.offset_by_itself.Statement.{statement}
 use Rattle.analysis.proofs.illegal_code.offset_by_itself.Tie as tie
 

@@ -1,8 +1,6 @@
 -- `reads_pc_into_pc` meets its contract.
-use mathlib.Core.Path.{sym, _∙_}
-use borrow.Author.Tests.{eq-eqb, ne-eqb}
+use Rattle.base.proofs.Prelude.{_∙_, sym, needs, eq-eqb, ne-eqb}
 use Rattle.analysis.specs.IllegalCode.{readsPcIntoPc}
-use borrow.Author.Needs.{needs}
 use Rattle.analysis.proofs.illegal_code.reads_pc_into_pc.Statement.{statement}
 use Rattle.analysis.proofs.illegal_code.reads_pc_into_pc.Tie as tie
 

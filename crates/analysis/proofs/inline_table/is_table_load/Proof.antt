@@ -1,7 +1,6 @@
 -- `is_table_load` meets its contract.
-use mathlib.Core.Path.{sym, _∙_}
+use Rattle.base.proofs.Prelude.{_∙_, sym, needs}
 use Rattle.analysis.specs.InlineTable.{isTableLoad}
-use borrow.Author.Needs.{needs}
 use Rattle.analysis.proofs.inline_table.is_table_load.Statement.{statement}
 use Rattle.analysis.proofs.inline_table.is_table_load.Tie as tie
 

@@ -1,8 +1,6 @@
 -- `start` meets its contract.
-use mathlib.Core.Path.{sym, _∙_}
-use borrow.Author.Tests.{eq-eqb, ne-eqb}
+use Rattle.base.proofs.Prelude.{_∙_, sym, needs, eq-eqb, ne-eqb}
 use Rattle.analysis.specs.InlineTable.{subPcOf}
-use borrow.Author.Needs.{needs}
 use Rattle.analysis.proofs.inline_table.start.Statement.{statement}
 use Rattle.analysis.proofs.inline_table.start.Tie as tie
 

@@ -1,6 +1,6 @@
 -- `sub_from` meets its contract.
 use Rattle.analysis.specs.InlineTable.{subFrom}
-use borrow.Author.Needs.{needs}
+use Rattle.base.proofs.Prelude.{needs}
 use Rattle.analysis.proofs.inline_table.sub_from.Statement.{statement}
 use Rattle.analysis.proofs.inline_table.sub_from.Tie as tie
 

@@ -1,10 +1,6 @@
 -- `table_address` meets its contract.
-use mathlib.Core.Bool.{Bool, true, false}
-use Prim.Native.Nat.{_+_, _-_, _<_, _≤_}
-use native.Mathlib.Omega.{arith}
-use borrow.Author.Tests.{lt-ltb, le-ltb}
+use Rattle.base.proofs.Prelude.{true, false, Bool, _≤_, _+_, _<_, _-_, arith, needs, le-ltb, lt-ltb}
 use Rattle.analysis.specs.InlineTable.{tableAddress, aheadOf}
-use borrow.Author.Needs.{needs}
 use Rattle.analysis.proofs.inline_table.table_address.Statement.{statement}
 use Rattle.analysis.proofs.inline_table.table_address.Tie as tie
 

@@ -1,7 +1,6 @@
 -- `table_made` meets its contract.
-use borrow.Author.Tests.{lt-ltb, le-ltb}
+use Rattle.base.proofs.Prelude.{needs, lt-ltb, le-ltb}
 use Rattle.analysis.specs.InlineTable.{tableMade}
-use borrow.Author.Needs.{needs}
 use Rattle.analysis.proofs.inline_table.table_made.Statement.{statement}
 use Rattle.analysis.proofs.inline_table.table_made.Tie as tie
 

@@ -1,7 +1,6 @@
 -- `check_start` meets its contract.
-use mathlib.Core.Path.{sym, _∙_}
+use Rattle.base.proofs.Prelude.{_∙_, sym, needs}
 use Rattle.analysis.specs.JumpTable.{checkStart}
-use borrow.Author.Needs.{needs}
 use Rattle.analysis.proofs.jump_table.check_start.Statement.{statement}
 use Rattle.analysis.proofs.jump_table.check_start.Tie as tie
 

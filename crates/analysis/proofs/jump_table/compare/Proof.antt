@@ -1,7 +1,6 @@
 -- `compare` meets its contract.
-use mathlib.Core.Path.{sym, _∙_}
+use Rattle.base.proofs.Prelude.{_∙_, sym, needs}
 use Rattle.analysis.specs.JumpTable.{compared}
-use borrow.Author.Needs.{needs}
 use Rattle.analysis.proofs.jump_table.compare.Statement.{statement}
 use Rattle.analysis.proofs.jump_table.compare.Tie as tie
 

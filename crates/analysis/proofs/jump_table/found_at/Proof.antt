@@ -1,7 +1,6 @@
 -- `found_at` meets its contract.
-use borrow.Author.Tests.{lt-ltb, le-ltb}
+use Rattle.base.proofs.Prelude.{needs, lt-ltb, le-ltb}
 use Rattle.analysis.specs.JumpTable.{found}
-use borrow.Author.Needs.{needs}
 use Rattle.analysis.proofs.jump_table.found_at.Statement.{statement}
 use Rattle.analysis.proofs.jump_table.found_at.Tie as tie
 

@@ -1,5 +1,5 @@
 -- `in_state` meets its contract, state by state.
-use borrow.Author.Needs.{needs}
+use Rattle.base.proofs.Prelude.{needs}
 use Rattle.analysis.proofs.jump_table.in_state.Statement.{statement}
 use Rattle.analysis.proofs.jump_table.in_state.Tie as tie
 

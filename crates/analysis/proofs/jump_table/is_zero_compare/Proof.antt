@@ -1,8 +1,6 @@
 -- `is_zero_compare` meets its contract.
-use mathlib.Core.Path.{sym, _∙_}
-use borrow.Author.Tests.{eq-eqb, ne-eqb}
+use Rattle.base.proofs.Prelude.{_∙_, sym, needs, eq-eqb, ne-eqb}
 use Rattle.analysis.specs.JumpTable.{isZeroLimit}
-use borrow.Author.Needs.{needs}
 use Rattle.analysis.proofs.jump_table.is_zero_compare.Statement.{statement}
 use Rattle.analysis.proofs.jump_table.is_zero_compare.Tie as tie
 

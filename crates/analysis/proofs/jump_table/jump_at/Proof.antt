@@ -1,7 +1,6 @@
 -- `jump_at` meets its contract.
-use mathlib.Core.Path.{sym, _∙_}
+use Rattle.base.proofs.Prelude.{_∙_, sym, needs}
 use Rattle.analysis.specs.JumpTable.{jumpAt}
-use borrow.Author.Needs.{needs}
 use Rattle.analysis.proofs.jump_table.jump_at.Statement.{statement}
 use Rattle.analysis.proofs.jump_table.jump_at.Tie as tie
 

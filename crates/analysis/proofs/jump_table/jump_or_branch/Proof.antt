@@ -1,7 +1,6 @@
 -- `jump_or_branch` meets its contract.
-use mathlib.Core.Path.{sym, _∙_}
+use Rattle.base.proofs.Prelude.{_∙_, sym, needs}
 use Rattle.analysis.specs.JumpTable.{jumpOrBranch}
-use borrow.Author.Needs.{needs}
 use Rattle.analysis.proofs.jump_table.jump_or_branch.Statement.{statement}
 use Rattle.analysis.proofs.jump_table.jump_or_branch.Tie as tie
 

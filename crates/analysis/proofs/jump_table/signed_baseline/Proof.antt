@@ -1,7 +1,6 @@
 -- `signed_baseline` meets its contract.
-use mathlib.Core.Path.{sym, _∙_}
+use Rattle.base.proofs.Prelude.{_∙_, sym, needs}
 use Rattle.analysis.specs.JumpTable.{signedBaseline}
-use borrow.Author.Needs.{needs}
 use Rattle.analysis.proofs.jump_table.signed_baseline.Statement.{statement}
 use Rattle.analysis.proofs.jump_table.signed_baseline.Tie as tie
 

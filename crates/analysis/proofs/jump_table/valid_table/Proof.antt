@@ -1,7 +1,6 @@
 -- `valid_table` meets its contract.
-use borrow.Author.Tests.{lt-ltb, le-ltb}
+use Rattle.base.proofs.Prelude.{needs, lt-ltb, le-ltb}
 use Rattle.analysis.specs.JumpTable.{validTable}
-use borrow.Author.Needs.{needs}
 use Rattle.analysis.proofs.jump_table.valid_table.Statement.{statement}
 use Rattle.analysis.proofs.jump_table.valid_table.Tie as tie
 

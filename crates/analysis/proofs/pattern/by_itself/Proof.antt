@@ -1,5 +1,5 @@
 -- `by_itself` meets its contract.
-use borrow.Author.Needs.{needs}
+use Rattle.base.proofs.Prelude.{needs}
 use Rattle.analysis.proofs.pattern.by_itself.Statement.{statement}
 use Rattle.analysis.proofs.pattern.by_itself.Tie as tie
 

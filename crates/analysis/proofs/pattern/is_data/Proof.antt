@@ -1,6 +1,5 @@
 -- `is_data` meets its contract.
-use mathlib.Core.Path.{sym, _∙_}
-use borrow.Author.Needs.{needs}
+use Rattle.base.proofs.Prelude.{_∙_, sym, needs}
 use Rattle.analysis.proofs.pattern.is_data.Statement.{statement}
 use Rattle.analysis.proofs.pattern.is_data.Tie as tie
 

@@ -1,5 +1,5 @@
 -- `is_pre` meets its contract.
-use borrow.Author.Needs.{needs}
+use Rattle.base.proofs.Prelude.{needs}
 use Rattle.analysis.proofs.pattern.is_pre.Statement.{statement}
 use Rattle.analysis.proofs.pattern.is_pre.Tie as tie
 

@@ -1,6 +1,5 @@
 -- `is_register` meets its contract.
-use borrow.Author.Tests.{eq-eqb, ne-eqb}
-use borrow.Author.Needs.{needs}
+use Rattle.base.proofs.Prelude.{needs, eq-eqb, ne-eqb}
 use Rattle.analysis.proofs.pattern.is_register.Statement.{statement}
 use Rattle.analysis.proofs.pattern.is_register.Tie as tie
 

@@ -1,6 +1,5 @@
 -- `is_when` meets its contract.
-use mathlib.Core.Path.{sym, _∙_}
-use borrow.Author.Needs.{needs}
+use Rattle.base.proofs.Prelude.{_∙_, sym, needs}
 use Rattle.analysis.proofs.pattern.is_when.Statement.{statement}
 use Rattle.analysis.proofs.pattern.is_when.Tie as tie
 

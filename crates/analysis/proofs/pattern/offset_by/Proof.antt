@@ -1,5 +1,5 @@
 -- `offset_by` meets its contract.
-use borrow.Author.Needs.{needs}
+use Rattle.base.proofs.Prelude.{needs}
 use Rattle.analysis.proofs.pattern.offset_by.Statement.{statement}
 use Rattle.analysis.proofs.pattern.offset_by.Tie as tie
 

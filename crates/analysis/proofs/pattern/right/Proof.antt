@@ -1,5 +1,5 @@
 -- `right` meets its contract.
-use borrow.Author.Needs.{needs}
+use Rattle.base.proofs.Prelude.{needs}
 use Rattle.analysis.proofs.pattern.right.Statement.{statement}
 use Rattle.analysis.proofs.pattern.right.Tie as tie
 

@@ -1,7 +1,6 @@
 -- `first_word` meets its contract.
-use borrow.Author.Tests.{le-ltb, lt-ltb}
+use Rattle.base.proofs.Prelude.{needs, le-ltb, lt-ltb}
 use Rattle.base.specs.Words.{firstWord}
-use borrow.Author.Needs.{needs}
 use Rattle.base.proofs.word.first_word.Statement.{statement}
 use Rattle.base.proofs.word.first_word.Tie as tie
 

@@ -1,7 +1,6 @@
 -- `word_from` meets its contract.
-use borrow.Author.Tests.{le-ltb, lt-ltb}
+use Rattle.base.proofs.Prelude.{needs, le-ltb, lt-ltb}
 use Rattle.base.specs.Words.{wordFrom}
-use borrow.Author.Needs.{needs}
 use Rattle.base.proofs.Parts.{rest-whole}
 use Rattle.base.proofs.word.word_from.Statement.{statement}
 use Rattle.base.proofs.word.word_from.Tie as tie

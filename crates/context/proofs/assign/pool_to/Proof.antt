@@ -1,5 +1,5 @@
 -- `context::assign::pool_to` meets its contract.
-use borrow.Author.Needs.{needs}
+use Rattle.base.proofs.Prelude.{needs}
 use Rattle.context.proofs.assign.pool_to.Statement.{statement}
 use Rattle.context.proofs.assign.pool_to.Tie as tie
 

@@ -1,5 +1,5 @@
 -- `context::assign::raise` meets its contract.
-use borrow.Author.Needs.{needs}
+use Rattle.base.proofs.Prelude.{needs}
 use Rattle.context.proofs.assign.raise.Statement.{statement}
 use Rattle.context.proofs.assign.raise.Tie as tie
 

@@ -1,7 +1,7 @@
 -- `host::told::begin` meets its contract.
 -- Assumes nothing.
 use Rattle.host.proofs.Laws.{begins}
-use borrow.Author.Needs.{needs}
+use Rattle.base.proofs.Prelude.{needs}
 use Rattle.host.proofs.told.begin.Statement.{statement}
 use Rattle.host.proofs.told.begin.Tie as tie
 

@@ -1,6 +1,6 @@
 -- `host::told::begun_with` meets its contract.
 -- Assumes nothing.
-use borrow.Author.Needs.{needs}
+use Rattle.base.proofs.Prelude.{needs}
 use Rattle.host.proofs.told.begun_with.Statement.{statement}
 use Rattle.host.proofs.told.begun_with.Tie as tie
 

@@ -1,6 +1,6 @@
 -- `host::told::number_told` meets its contract.
 -- Assumes nothing.
-use borrow.Author.Tests.{eq-eqb, ne-eqb}
+use Rattle.base.proofs.Prelude.{eq-eqb, ne-eqb}
 use Rattle.host.proofs.told.number_told.Statement.{statement}
 use Rattle.host.proofs.told.number_told.Tie as tie
 

@@ -1,6 +1,6 @@
 -- `host::told::stay` meets its contract.
 -- Assumes nothing.
-use borrow.Author.Needs.{needs}
+use Rattle.base.proofs.Prelude.{needs}
 use Rattle.host.proofs.told.stay.Statement.{statement}
 use Rattle.host.proofs.told.stay.Tie as tie
 

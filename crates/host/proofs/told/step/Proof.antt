@@ -1,10 +1,7 @@
 -- `host::told::step` meets its contract.
 -- Assumes nothing.
-use mathlib.Core.Path.{sym, _∙_}
-use borrow.Author.Tests.{not-true, not-false}
-use denote.Ref.{now}
+use Rattle.base.proofs.Prelude.{_∙_, sym, needs, not-false, not-true, now}
 use Rattle.host.proofs.Laws.{step-ended, step-refused, turn-may, step-turned}
-use borrow.Author.Needs.{needs}
 use Rattle.host.proofs.told.step.Statement.{statement}
 use Rattle.host.proofs.told.step.Tie as tie
 

@@ -1,12 +1,7 @@
 -- `rows::order::clear` meets its contract. The loop's invariant: the first i places hold zero. The measure is how many rows' places are left.
 -- Assumes nothing.
-use mathlib.Core.Path.{_≡_, refl, _∙_}
-use mathlib.Core.List.{_++_}
-use Prim.Native.Nat.{_-_, _*_, _≤_}
-use native.Mathlib.Omega.{arith}
+use Rattle.base.proofs.Prelude.{_∙_, refl, _≡_, _++_, _≤_, _-_, _*_, arith, length, drop, replicate, length-set, now}
 use borrow.Author.Fill.{fill-none, fill-more}
-use denote.Ref.{now}
-use lib.ListN.{length, drop, replicate, length-set}
 use Rattle.rows.proofs.MapLaws.{held-cleared}
 use Rattle.rows.proofs.order.clear.Statement.{statement}
 use Rattle.rows.proofs.order.clear.Tie as tie

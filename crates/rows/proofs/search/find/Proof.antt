@@ -1,16 +1,11 @@
 -- `rows::search::find` meets its contract. The loop's invariant: the address's place lies between the two ends. The measure is their distance.
 -- Assumes nothing.
-use mathlib.Core.Path.{_≡_}
-use mathlib.Core.List.{[]}
-use Prim.Native.Nat.{_-_, _*_, _≤_}
-use lib.ListN.{length, getD}
-use denote.Ref.{now}
+use Rattle.base.proofs.Prelude.{_≡_, [], _≤_, _-_, _*_, arith, length, getD, now}
 use Rattle.rows.specs.Rows.{rank}
 use Rattle.rows.proofs.RowLaws.{rank-within}
 use Rattle.rows.specs.Map.{keyOf, mapIn}
 use Rattle.rows.proofs.MapLaws.{map-length, row-key}
 use Rattle.rows.proofs.SearchLaws.{mid, mid-row, rank-up, rank-down}
-use native.Mathlib.Omega.{arith}
 use Rattle.rows.proofs.search.find.Statement.{statement}
 use Rattle.rows.proofs.search.find.Tie as tie
 

@@ -1,7 +1,6 @@
 -- `defined_after` meets its contract.
-use mathlib.Core.Path.{sym, _∙_}
+use Rattle.base.proofs.Prelude.{_∙_, sym, needs}
 use Rattle.walk.specs.Checking.{definedAfter}
-use borrow.Author.Needs.{needs}
 use Rattle.walk.proofs.checking.defined_after.Statement.{statement}
 use Rattle.walk.proofs.checking.defined_after.Tie as tie
 

@@ -1,7 +1,6 @@
 -- `defined_before` meets its contract.
-use mathlib.Core.Path.{sym, _∙_}
+use Rattle.base.proofs.Prelude.{_∙_, sym, needs}
 use Rattle.walk.specs.Checking.{definedBefore}
-use borrow.Author.Needs.{needs}
 use Rattle.walk.proofs.checking.defined_before.Statement.{statement}
 use Rattle.walk.proofs.checking.defined_before.Tie as tie
 

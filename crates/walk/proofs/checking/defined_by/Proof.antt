@@ -1,7 +1,6 @@
 -- `defined_by` meets its contract.
-use mathlib.Core.Path.{sym, _∙_}
+use Rattle.base.proofs.Prelude.{_∙_, sym, needs}
 use Rattle.walk.specs.Checking.{definedBy}
-use borrow.Author.Needs.{needs}
 use Rattle.walk.proofs.checking.defined_by.Statement.{statement}
 use Rattle.walk.proofs.checking.defined_by.Tie as tie
 

@@ -1,6 +1,6 @@
 -- `is_checked` meets its contract.
 use Rattle.walk.specs.Checking.{isChecked}
-use borrow.Author.Needs.{needs}
+use Rattle.base.proofs.Prelude.{needs}
 use Rattle.walk.proofs.checking.is_checked.Statement.{statement}
 use Rattle.walk.proofs.checking.is_checked.Tie as tie
 

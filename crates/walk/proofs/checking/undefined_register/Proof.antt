@@ -1,7 +1,6 @@
 -- `undefined_register` meets its contract.
-use mathlib.Core.Path.{sym, _∙_}
+use Rattle.base.proofs.Prelude.{_∙_, sym, needs}
 use Rattle.walk.specs.Checking.{undefinedRegister}
-use borrow.Author.Needs.{needs}
 use Rattle.walk.proofs.checking.undefined_register.Statement.{statement}
 use Rattle.walk.proofs.checking.undefined_register.Tie as tie
 

@@ -1,6 +1,5 @@
 -- `end_address` meets its contract.
-use borrow.Author.Tests.{eq-eqb, ne-eqb}
-use borrow.Author.Needs.{needs}
+use Rattle.base.proofs.Prelude.{needs, eq-eqb, ne-eqb}
 use Rattle.walk.proofs.into_function.end_address.Statement.{statement}
 use Rattle.walk.proofs.into_function.end_address.Tie as tie
 

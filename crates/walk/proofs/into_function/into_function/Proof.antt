@@ -1,7 +1,6 @@
 -- `into_function` meets its contract.
-use borrow.Author.Tests.{le-ltb, lt-ltb}
+use Rattle.base.proofs.Prelude.{needs, le-ltb, lt-ltb}
 use Rattle.walk.specs.IntoFunction.{intoFunction}
-use borrow.Author.Needs.{needs}
 use Rattle.walk.proofs.into_function.into_function.Statement.{statement}
 use Rattle.walk.proofs.into_function.into_function.Tie as tie
 

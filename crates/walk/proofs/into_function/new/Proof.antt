@@ -1,6 +1,6 @@
 -- `new` meets its contract.
 use Rattle.walk.specs.IntoFunction.{begun}
-use borrow.Author.Needs.{needs}
+use Rattle.base.proofs.Prelude.{needs}
 use Rattle.walk.proofs.into_function.new.Statement.{statement}
 use Rattle.walk.proofs.into_function.new.Tie as tie
 

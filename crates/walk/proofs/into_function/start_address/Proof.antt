@@ -1,5 +1,5 @@
 -- `start_address` meets its contract.
-use borrow.Author.Tests.{eq-eqb, le-ltb, lt-ltb, ne-eqb}
+use Rattle.base.proofs.Prelude.{eq-eqb, ne-eqb, le-ltb, lt-ltb}
 use Rattle.walk.specs.IntoFunction.{startOf}
 use Rattle.walk.proofs.into_function.start_address.Statement.{statement}
 use Rattle.walk.proofs.into_function.start_address.Tie as tie

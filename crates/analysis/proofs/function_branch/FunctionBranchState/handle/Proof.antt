@@ -1,5 +1,5 @@
 -- `FunctionBranchState::handle` meets its contract, state by state.
-use borrow.Author.Needs.{needs}
+use Rattle.base.proofs.Prelude.{needs}
 use Rattle.analysis.proofs.function_branch.FunctionBranchState.handle.Statement.{statement}
 use Rattle.analysis.proofs.function_branch.FunctionBranchState.handle.Tie as tie
 

@@ -1,7 +1,6 @@
 -- `handle` meets its contract.
-use mathlib.Core.Path.{sym, _∙_}
+use Rattle.base.proofs.Prelude.{_∙_, sym, needs}
 use Rattle.analysis.specs.IllegalCode.{illegalCode}
-use borrow.Author.Needs.{needs}
 use Rattle.analysis.proofs.illegal_code.IllegalCodeState.handle.Statement.{statement}
 use Rattle.analysis.proofs.illegal_code.IllegalCodeState.handle.Tie as tie
 

@@ -1,5 +1,5 @@
 -- `InlineTableState::get_table` meets its contract.
-use borrow.Author.Needs.{needs}
+use Rattle.base.proofs.Prelude.{needs}
 use Rattle.analysis.proofs.inline_table.InlineTableState.get_table.Statement.{statement}
 use Rattle.analysis.proofs.inline_table.InlineTableState.get_table.Tie as tie
 

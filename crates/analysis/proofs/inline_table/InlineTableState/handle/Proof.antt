@@ -1,6 +1,5 @@
 -- `InlineTableState::handle` meets its contract, state by state.
-use mathlib.Core.Path.{sym, _∙_}
-use borrow.Author.Needs.{needs}
+use Rattle.base.proofs.Prelude.{_∙_, sym, needs}
 use Rattle.analysis.proofs.inline_table.InlineTableState.handle.Statement.{statement}
 use Rattle.analysis.proofs.inline_table.InlineTableState.handle.Tie as tie
 

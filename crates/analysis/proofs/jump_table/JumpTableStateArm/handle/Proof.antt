@@ -1,7 +1,6 @@
 -- `JumpTableStateArm::handle` meets its contract.
-use mathlib.Core.Path.{sym, _∙_}
+use Rattle.base.proofs.Prelude.{_∙_, sym, needs}
 use Rattle.analysis.specs.JumpTable.{jumpTable}
-use borrow.Author.Needs.{needs}
 use Rattle.analysis.proofs.jump_table.JumpTableStateArm.handle.Statement.{statement}
 use Rattle.analysis.proofs.jump_table.JumpTableStateArm.handle.Tie as tie
 

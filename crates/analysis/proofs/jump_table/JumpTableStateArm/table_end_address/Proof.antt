@@ -1,7 +1,6 @@
 -- `JumpTableStateArm::table_end_address` meets its contract.
-use borrow.Author.Tests.{lt-ltb, le-ltb}
-use Rattle.analysis.specs.JumpTable.{endOf}
-use borrow.Author.Needs.{needs}
+use Rattle.base.proofs.Prelude.{needs, lt-ltb, le-ltb}
+use Rattle.analysis.specs.JumpTable.{endOfEntries}
 use Rattle.analysis.proofs.jump_table.JumpTableStateArm.table_end_address.Statement.{statement}
 use Rattle.analysis.proofs.jump_table.JumpTableStateArm.table_end_address.Tie as tie
 
@@ -42,8 +41,8 @@ cast-t11 : tie.Need-cast-t11
 cast-t11 c = search needs
 
 returns : tie.Need-returns
-unfolding endOf
-returns c = rw (c .before .before .self .given .1, lt-ltb _ _ (c .if1 .taken), endOf)
+unfolding endOfEntries
+returns c = rw (c .before .before .self .given .1, lt-ltb _ _ (c .if1 .taken), endOfEntries)
 
 returns-2 : tie.Need-returns-2
 returns-2 c = search needs
@@ -61,8 +60,8 @@ returns-6 : tie.Need-returns-6
 returns-6 c = search needs
 
 returns-7 : tie.Need-returns-7
-unfolding endOf
-returns-7 c = rw (c .before .before .self .given .1, le-ltb _ _ (c .if1 .left), endOf)
+unfolding endOfEntries
+returns-7 c = rw (c .before .before .self .given .1, le-ltb _ _ (c .if1 .left), endOfEntries)
 
 pub table-end-address-spec : {M : Type 1} → statement M
 table-end-address-spec =

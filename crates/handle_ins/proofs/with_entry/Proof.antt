@@ -1,8 +1,8 @@
--- `handle_ins::entered` meets its contract.
+-- `handle_ins::with_entry` meets its contract.
 -- Assumes nothing.
-use borrow.Author.Needs.{needs}
-use Rattle.handle_ins.proofs.entered.Statement.{statement}
-use Rattle.handle_ins.proofs.entered.Tie as tie
+use Rattle.base.proofs.Prelude.{needs}
+use Rattle.handle_ins.proofs.with_entry.Statement.{statement}
+use Rattle.handle_ins.proofs.with_entry.Tie as tie
 
 count-calls-requires : tie.Need-count-calls-requires
 count-calls-requires c κs = search needs
@@ -19,6 +19,6 @@ returns c = rw (c .refuse .ensures, c .before .before .with-call .ensures, c .be
 returns-2 : tie.Need-returns-2
 returns-2 c = rw (c .before .with-call .ensures, c .before .before .count-calls .ensures, c .if1 .left)
 
-pub entered-spec : {M : Type 1} → statement M
-entered-spec =
+pub with-entry-spec : {M : Type 1} → statement M
+with-entry-spec =
     tie.close (tie.spec count-calls-requires with-call-requires refuse-requires returns returns-2)
