@@ -57,9 +57,10 @@ unless false true x y e = refl
 unless false false x y e = cc
 
 module _ (count : ℕ) (before : List ℕ) (r : Stepped) where
-  pub stores-none : {p : Stepped} {t : State} → r .state .call ≡ Nothing → Held callRow count before → t ≡ counted (countCalls count (r .state .counts)) (r .state)
-      → p ≡ record { then = r .then; state = t } → Stores count before before r p
-  stores-none e h same is = rw (is, same, e) (record { held = h; counts = refl; says = λ q g h l. refl; full = λ q. cc })
+  -- one that puts no call
+  pub stores-nothing : {n : ℕ} → r .state .call ≡ Nothing → n ≡ count → Held callRow count before
+      → Stores count before before r (withEntry (record { full = false; count = n }) r)
+  stores-nothing e same h = rw (same, e) (record { held = h; counts = refl; says = λ q g h l. refl; full = λ q. cc })
 
   pub stores-call : {w d mode : ℕ} {after : List ℕ} {e : Entered} {p : Stepped} → r .state .call ≡ Call w d mode
       → Entering callRow count before (r .state .progress .address ∷ w ∷ d ∷ mode ∷ []) e after → p ≡ withEntry e r → Stores count before after r p

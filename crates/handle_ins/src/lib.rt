@@ -133,28 +133,21 @@ pub fn with_entry(r: Stepped, e: Entered) -> Stepped
     Stepped { then, state }
 }
 
-// The step's call in its list, which had `count` before it.
-fn put_call(r: Stepped, count: usize, calls: &mut [u32]) -> Stepped
+// The step's call entered in its list, which had `count` before it, where the step has one.
+fn put_call(r: Stepped, count: usize, calls: &mut [u32]) -> Entered
     requires { ⌜ Held callRow count (now calls) ⌝ }
-    ensures { λ p. ⌜ Stores count (now (calls .entry)) (now (calls .exit)) r p ⌝ }
+    ensures { λ e. ⌜ Stores count (now (calls .entry)) (now (calls .exit)) r (withEntry e r) ⌝ }
 {
     let s = r.state;
-    let then = r.then;
+    let p = s.progress;
     let call = s.call;
     match call {
-        Put::Nothing => Stepped {
-            then,
-            state: assign::count_calls(s, count),
-        },
+        Put::Nothing => Entered { full: false, count },
         Put::Call {
             word,
             destination,
             mode,
-        } => {
-            let p = s.progress;
-            let e = enter(calls, CALL_ROW, count, [p.address, word, destination, mode]);
-            with_entry(r, e)
-        }
+        } => enter(calls, CALL_ROW, count, [p.address, word, destination, mode]),
     }
 }
 
@@ -194,8 +187,10 @@ pub fn handle_ins(
         calls,
     );
     let registers = handled.registers;
+    let r = handled.stepped;
+    let e = put_call(r, n.calls, calls);
     Handled {
-        stepped: pass(put_call(handled.stepped, n.calls, calls), ins),
+        stepped: pass(with_entry(r, e), ins),
         registers,
     }
 }

@@ -23,7 +23,7 @@ use Rattle.context.specs.Lists.{Lists, AllHeld, givenBy}
 use Rattle.context.specs.State.{Holds, PutsIf, passesAs, passes, headed}
 use Rattle.context.specs.Turn.{keyOr0, noMaps, countsOf}
 use Rattle.handle_ins.specs.Handles.{Handles, contextIn, worldOf, allIn, callsOf, callsAt, withEntry, Stores}
-use Rattle.handle_ins.proofs.Laws.{stores-none, handles-ins}
+use Rattle.handle_ins.proofs.Laws.{handles-ins}
 use Rattle.outcome.specs.Outcome.{stateOf, withCounts, refusedWalk, settles, isRefused}
 use Rattle.outcome.proofs.Laws.{all-zeroed}
 use Rattle.registers.specs.declared.Registers.{Registers}
@@ -66,11 +66,6 @@ calls-held : {calls : List Call} {n a : ℕ} {told : Told} → Tells calls n a t
 calls-held t e = in-order-held (omega arith) (sym (t .ordered) ∙ e)
 
 -- ---- a step
-
--- one that puts no call
-pub stores-nothing : (calls : List ℕ) (r : Stepped) {n count : ℕ} → r .state .call ≡ Nothing → count ≡ n → Held callRow n calls
-    → Stores n calls calls r (withEntry (record { full = false; count = count }) r)
-stores-nothing calls r {n} none is h = rw is (stores-none n calls r none h (rw none) refl)
 
 -- some calls of which one goes to the address, or none
 abbrev some-calls : Bool → ℕ → List (List ℕ)
