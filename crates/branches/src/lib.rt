@@ -88,7 +88,7 @@ fn is_tail_call(start: u32, end: u32, ins: Ins) -> bool
     false
 }
 
-// `is_called_next` is asked of the calls before (`Told`).
+// `is_called_next` is asked of the calls before (`ToldOfCalls`).
 pub fn final_return(
     o: Options,
     s: State,

@@ -82,7 +82,7 @@ hasRoom a count calls = fits callRow (length calls) (inserted keyOf (a ∷ []) (
 abbrev pub callsAt : List ℕ → Lists → Lists
 callsAt calls l = lists (l .labels) (l .pools) (l .«jump_tables») (l .«inline_tables») calls
 
--- the code's `entered`
+-- the code's `with_entry`
 abbrev pub withEntry : Entered → Stepped → Stepped
 withEntry e r = record {
   then = pick (e .full) (Refuses listFull 0) (r .then);
