@@ -1,5 +1,5 @@
 /* Cugbejin for C: one function's walk, from an accepted start to its record or a refusal, in one call.
- * Link target/staticlib/libcugbejin_c.a, which `rt staticlib cugbejin_c` writes. docs/PROMISES.md says which definition each result equals. */
+ * Link crates/cugbejin_c/out/libcugbejin_c.a, which `rt lib` writes there. docs/PROMISES.md says which definition each result equals. */
 #ifndef CUGBEJIN_H
 #define CUGBEJIN_H
 

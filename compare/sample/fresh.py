@@ -1,14 +1,14 @@
 #!/usr/bin/env python3
 """Compares fresh requests with the original, call by call: the answer, every list after each step, and the register of 11.
 
-Usage: fresh.py WALK PROGRAMS COUNT SEED
+Usage: fresh.py WALK CRATES COUNT SEED
 
-WALK is the path of the built oracle, PROGRAMS the folder with this repository's `walks`, `listings` and `listfn` (target/bin after `rt check walks
-listings listfn`). Of the requests three in ten are rich functions (rich.py), about as many are planned or rich ones with words and options changed,
-and the others are code and options at random. Each runs in `walks` with as many places as the lists can have, and once more with few and some
-numbers left over behind them; what a list without room must answer, 13, is worked out from the original's own lists. Each that has no existing
-starts, which the listing program does not know, goes through `listings` too, and the first ten of each batch through `listfn`: they must print the
-end of the original's listing. Prints how many agreed and the first that did not, and fails if any did not.
+WALK is the path of the built oracle, CRATES the folder of this repository's crates, where tools/build has built `walks`, `listings` and `listfn`.
+Of the requests three in ten are rich functions (rich.py), about as many are planned or rich ones with words and options changed, and the others
+are code and options at random. Each runs in `walks` with as many places as the lists can have, and once more with few and some numbers left over
+behind them; what a list without room must answer, 13, is worked out from the original's own lists. Each that has no existing starts, which the
+listing program does not know, goes through `listings` too, and the first ten of each batch through `listfn`: they must print the end of the
+original's listing. Prints how many agreed and the first that did not, and fails if any did not.
 """
 import collections
 import pathlib
@@ -87,16 +87,21 @@ def with_few(listing, start, places):
     return '\n'.join(lines)
 
 
-def listed(programs, requests):
+def built(crates, name):
+    """Where tools/build leaves a program."""
+    return crates / name / 'out' / name
+
+
+def listed(crates, requests):
     """What the listing program prints for each request, or None for one with existing starts: by `listings`, and for the first ones by `listfn` too, which
     must be the same."""
     inputs = [request.pack() for request in requests if not request.existing]
     framed = b''.join(struct.pack('>I', len(data)) + data for data in inputs)
-    said = subprocess.run([programs / 'listings'], input=framed, capture_output=True, check=True).stdout.decode()
+    said = subprocess.run([built(crates, 'listings')], input=framed, capture_output=True, check=True).stdout.decode()
     texts = [text.strip('\n') for text in re.split(r'^(?=function |refused )', said, flags=re.M)[1:]]
     assert len(texts) == len(inputs)
     for data, text in list(zip(inputs, texts))[:LISTFN]:
-        alone = listings(programs / 'listfn', data)
+        alone = listings(built(crates, 'listfn'), data)
         if alone != [text]:
             sys.exit(f'listfn, request {data.hex()}\nlistings:\n{text}\nlistfn:\n{alone}')
     left = iter(texts)
@@ -144,7 +149,7 @@ class Tally:
 
 
 def main():
-    oracle, programs, count, seed = sys.argv[1], pathlib.Path(sys.argv[2]), int(sys.argv[3]), int(sys.argv[4])
+    oracle, crates, count, seed = sys.argv[1], pathlib.Path(sys.argv[2]), int(sys.argv[3]), int(sys.argv[4])
     tally = Tally()
     random.seed(seed)
     for first in range(0, count, BATCH):
@@ -152,10 +157,10 @@ def main():
         places = [tuple(random.choice((0, 1, 2, 3, 5, 64)) for _ in KINDS) for _ in requests]
         more = [random.choice((0, 0, 1, 2, 3)) for _ in requests]
         expected = original(oracle, requests)
-        given = listings(programs / 'walks', b''.join(with_places(request, MOST, 0) for request in requests))
-        few = listings(programs / 'walks', b''.join(with_places(*parts) for parts in zip(requests, places, more)))
+        given = listings(built(crates, 'walks'), b''.join(with_places(request, MOST, 0) for request in requests))
+        few = listings(built(crates, 'walks'), b''.join(with_places(*parts) for parts in zip(requests, places, more)))
         assert len(expected) == len(given) == len(few) == len(requests)
-        for parts in zip(requests, expected, given, few, map(room, places, more), listed(programs, requests)):
+        for parts in zip(requests, expected, given, few, map(room, places, more), listed(crates, requests)):
             tally.add(*parts)
     compared = sum(tally.ends.values())
     print(f'{compared - tally.different} agreed, {tally.different} did not, {tally.left_out} left out')

@@ -7,7 +7,7 @@ use Rattle.classes.specs.Class.{is}
 use Rattle.analysis.specs.declared.illegal_code.IllegalCodeState.{IllegalCodeState}
 use Rattle.analysis.specs.declared.illegal_code.IllegalCodeState.TheVariants.{Start, ShiftedRegisterValue, Illegal}
 use Rattle.analysis.specs.Pattern.{by_itself, pc}
-use Rattle.base.specs.Refusals.{illegal_opcode, shifted_base, offset_by_itself as offsetRefused, pc_into_pc}
+use Rattle.base.specs.Refusals.{illegal_opcode, shifted_base, offset_by_itself as offset_refused, pc_into_pc}
 use Rattle.base.specs.Choice.{pick, both}
 
 -- a register gets a shifted value
@@ -37,5 +37,5 @@ illegal_code s i =
     pick (is i.class ILLEGAL) (Illegal illegal_opcode)
     (pick (is_shift i) (ShiftedRegisterValue i.rd)
     (pick (dereferenced s i) (Illegal shifted_base)
-    (pick (offset_by_itself i) (Illegal offsetRefused)
+    (pick (offset_by_itself i) (Illegal offset_refused)
     (pick (reads_pc_into_pc i) (Illegal pc_into_pc) Start))))

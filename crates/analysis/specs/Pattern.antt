@@ -2,7 +2,7 @@
 -- Assumes nothing.
 use Rattle.std.specs.Prelude.{ℕ, Bool, true, false, eqb}
 use Rattle.std.specs.Bool.{beq}
-use Rattle.base.specs.Choice.{pick, both}
+use Rattle.base.specs.Choice.{both}
 use Rattle.classes.specs.declared.Class.{Class}
 use Rattle.arm.specs.declared.Ins.{Ins}
 use Rattle.classes.specs.declared.ShiftOp.{ShiftOp}

@@ -6,7 +6,7 @@ use crate::pattern::{AL, GE, IP, LR, MI, PC, SP, is_data, is_pre, is_register, i
 use arm::Ins;
 use classes::Class;
 
-#[derive(Drop)]
+#[derive(Clone, Copy)]
 pub enum FunctionBranchState {
     Start,
     Eors,

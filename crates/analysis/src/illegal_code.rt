@@ -8,7 +8,7 @@ use base::refusal::{ILLEGAL_OPCODE, OFFSET_BY_ITSELF, PC_INTO_PC, SHIFTED_BASE};
 use classes::Class;
 
 // `reason` is the refusal's number in document 01.
-#[derive(Drop)]
+#[derive(Clone, Copy)]
 pub enum IllegalCodeState {
     Start,
     ShiftedRegisterValue { reg: u8 },

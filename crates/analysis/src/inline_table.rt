@@ -6,13 +6,13 @@ use crate::pattern::{AL, PC, by_lsr, is_data, is_pre, is_when};
 use arm::Ins;
 use classes::{Class, Op2};
 
-#[derive(Drop)]
+#[derive(Clone, Copy)]
 pub struct InlineTable {
     pub address: u32,
     pub size: u32,
 }
 
-#[derive(Drop)]
+#[derive(Clone, Copy)]
 pub enum InlineTableState {
     Start,
     SubPc {
@@ -24,13 +24,13 @@ pub enum InlineTableState {
 }
 
 // The next state; or, where a table's address or end leaves 32 bits, document 01's refusal 12.
-#[derive(Drop)]
+#[derive(Clone, Copy)]
 pub enum InlineTableAnswer {
     Next(InlineTableState),
     Refused,
 }
 
-#[derive(Drop)]
+#[derive(Clone, Copy)]
 pub enum FoundTable {
     Table(InlineTable),
     Nothing,

@@ -7,13 +7,13 @@ use crate::pattern::{AL, GE, GT, HI, LS, PC, is_data, is_scaled, is_when};
 use arm::Ins;
 use classes::{Class, Op2};
 
-#[derive(Drop)]
+#[derive(Clone, Copy)]
 pub struct JumpTable {
     pub address: u32,
     pub size: u32,
 }
 
-#[derive(Drop)]
+#[derive(Clone, Copy)]
 pub enum JumpTableStateArm {
     CmpReg,
     JumpOrBranchSigned { index: u8, limit: u32 },
@@ -24,14 +24,14 @@ pub enum JumpTableStateArm {
 }
 
 // The next state; the next state and the table to record; or, where the table's size or end leaves 32 bits, document 01's refusal 12.
-#[derive(Drop)]
+#[derive(Clone, Copy)]
 pub enum JumpTableAnswer {
     Next(JumpTableStateArm),
     Found(JumpTableStateArm, JumpTable),
     Refused,
 }
 
-#[derive(Drop)]
+#[derive(Clone, Copy)]
 pub enum TableEnd {
     At(u32),
     Nothing,

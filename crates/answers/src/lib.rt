@@ -1,4 +1,6 @@
 // What an answer of the walk says, in document 01's numbers.
+#![tactic(auto)]
+
 ghost use Rattle.std.specs.Prelude.{◌≡◌};
 ghost use Rattle.answers.specs.Answers.{number_of, address_of, register_of};
 

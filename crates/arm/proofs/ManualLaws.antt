@@ -17,7 +17,7 @@ use Rattle.classes.specs.declared.Op2.{Op2}
 use Rattle.classes.specs.declared.Op2.TheVariants.{Imm, ShiftImm, ShiftReg}
 use Rattle.classes.specs.Class.{class_no, is}
 use Rattle.encodings.specs.Diagram
-use Rattle.encodings.specs.Diagram.{Encoding, fits, fitting, first_or, bits, view}
+use Rattle.encodings.specs.Diagram.{Encoding, fits, fitting, first_or, view}
 use Rattle.encodings.specs.Encodings.{encodings, undefineds, encoding_on, encoding_of}
 use Rattle.arm.specs.Naming.{shift_name, mov_name, stm_name, ldm_name, str_name, ldr_name, name_of, class_of}
 use Rattle.modes.specs.Operands.{op2_of}
@@ -43,11 +43,13 @@ whole-undefineds = tt
 -- ---- at most one class fits
 
 alike-member : (c k : Class) (cs : List Class) → T (alike c cs) → Memᴰ k cs → k ≡ c
+alike-member c k [] t m = elim m [ ]
 alike-member c k (d ∷ cs) t (Memᴰ.head e) = e ∙ same_number d c (and_left (eqb (class_no d) (class_no c)) (alike c cs) t)
 alike-member c k (d ∷ cs) t (Memᴰ.tail m) = alike-member c k cs (and_right (eqb (class_no d) (class_no c)) (alike c cs) t) m
 
 first_member : (k : Class) (cs : List Class) → T (all_alike cs) → Memᴰ k cs → first_or Illegal cs ≡ k
 unfolding first_or
+first_member k [] t m = elim m [ ]
 first_member k (c ∷ cs) t (Memᴰ.head e) = sym e
 first_member k (c ∷ cs) t (Memᴰ.tail m) = sym (alike-member c k cs t m)
 

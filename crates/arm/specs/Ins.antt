@@ -1,6 +1,6 @@
 -- A decoded word, field by field.
 -- Assumes nothing.
-use Rattle.std.specs.Prelude.{ℕ, ◌/◌, ◌%◌, ◌^◌, Bool, eqb, ltb}
+use Rattle.std.specs.Prelude.{ℕ, ◌/◌, ◌^◌, Bool, eqb, ltb}
 use Rattle.arm.specs.declared.Ins.{Ins}
 use Rattle.classes.specs.Fields.{bit, rd_of, rn_of, rm_of}
 use Rattle.modes.specs.Operands.{op2_of, addr_of, mode_of, target_of}

@@ -1,4 +1,6 @@
 // ARMv5TE instruction words, decoded as the ARM Architecture Reference Manual says.
+#![tactic(auto)]
+
 mod naming;
 
 ghost use Rattle.std.specs.Prelude.{◌≡◌};
@@ -14,7 +16,7 @@ use regsets::sets;
 // A decoded word. Every field is read by its place, whatever the class: `rd` is bits 15 to 12 and `rn` bits 19 to 16 also where a page
 // gives them other names, `op2` is addressing mode 1, `addr` mode 2 and `mode` mode 4. Only `regs`, bits 15 to 0, is the one register of a
 // push or a pop that is a single transfer. Sets and flag follow the instruction's page.
-#[derive(Drop)]
+#[derive(Clone, Copy)]
 pub struct Ins {
     pub class: Class,
     pub cond: u8,

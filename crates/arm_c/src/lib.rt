@@ -1,4 +1,6 @@
 // The decoder for programs in other languages: a class is its number.
+#![tactic(auto)]
+
 ghost use Rattle.std.specs.Prelude.{◌≡◌};
 ghost use Rattle.classes.specs.Class.{class_no};
 ghost use Rattle.arm.specs.Naming.{class_of};

@@ -2,7 +2,7 @@
 ghost use Rattle.std.specs.Prelude.{◌≡◌};
 ghost use Rattle.base.specs.Words.{little_endian, first_word, word_from};
 
-#[derive(Drop)]
+#[derive(Clone, Copy)]
 pub enum Word {
     Found(u32),
     Missing,

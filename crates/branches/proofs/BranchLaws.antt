@@ -63,10 +63,10 @@ module _ (i : Ins) (word size : ℕ) (inside label last : Bool) where
   abbrev goes_by : Context → Step
   goes_by c = pick label (handle_label i size inside c) (pick last (ends (c.progress.address + size) c) (call_to i word arm c))
 
-  goes_by : (c : Context) {in_module : Bool} → in_module ≡ is_in c.given.options.module_start c.given.options.module_end i.target
+  branches-by : (c : Context) {in_module : Bool} → in_module ≡ is_in c.given.options.module_start c.given.options.module_end i.target
       → label ≡ both in_module (not (is_other_function i c)) → last ≡ both in_module (is_last i inside) → branches i word size inside c ≡ goes_by c
   unfolding branches
-  goes_by c {in_module} m e f =
+  branches-by c {in_module} m e f =
       rw (← m)
       (chosen in_module (is_other_function i c) (is_last i inside) (handle_label i size inside c) (ends (c.progress.address + size) c) (call_to i word arm c)
       ∙ rw (← e, ← f))
@@ -98,7 +98,7 @@ module _ (o : Options) (i : Ins) (s : State) (word size : ℕ) (inside : Bool) (
         → Puts (world labels) (world after) (branch i word size inside) s r
     unfolding branch branched is_other_function
     by {label = label} {last} e f d = λ l h.
-        rw (q, rw te at (goes_by i word size inside label last (context_of t (world labels l)) m e f)) (rw te at (d l (rw te h)))
+        rw (q, rw te at (branches-by i word size inside label last (context_of t (world labels l)) m e f)) (rw te at (d l (rw te h)))
 
     module _ {label : Bool} (e : label ≡ is_label in_module) where
       pub branch-label : {after : List ℕ} → label ≡ true

@@ -1,4 +1,6 @@
 // The blocks of a step about branches, returns and calls.
+#![tactic(auto)]
+
 ghost use Rattle.std.specs.Prelude.{◌≡◌, not, ℕ, ◌+◌, ◌<◌, ◌^◌, ltb, leb, length};
 ghost use Rattle.analysis.specs.FunctionBranch.{function_branch, is_function_branch};
 ghost use Rattle.base.specs.Choice.{both, either};

@@ -16,7 +16,7 @@ use Rattle.calls.specs.declared.Call.{Call}
 use Rattle.calls.specs.declared.Edit.{Edit}
 use Rattle.calls.specs.declared.Told.{Told}
 use Rattle.calls.specs.Records.{row_of, numbers_of, rows_in, is_none, rewritten, edited, none, Tells}
-use Rattle.calls.proofs.RecordLaws.{follows, order_is, rows_in, numbers-length, map-take, map-drop}
+use Rattle.calls.proofs.RecordLaws.{follows, order_is, first-rows, numbers-length, map-take, map-drop}
 use Rattle.calls.proofs.ToldLaws.{zeros-more}
 
 -- ---- turn by turn
@@ -48,6 +48,11 @@ rewritten-turn moves call i zero (c ∷ cs) h l = absurd (not-suc-le-zero h)
 rewritten-turn moves call zero (suc e) (c ∷ cs) h l = refl
 rewritten-turn moves call (suc i) (suc e) (c ∷ cs) h l =
     ap (λ r. c ∷ r) (rewritten-turn moves call i e cs (le_of_suc-le-suc h) (le_of_suc-le-suc l))
+
+-- the same, by what the turn found of `moves`
+pub rewritten-back : {moves b : Bool} → moves ≡ b → (call : Call) (i e : ℕ) (cs : List Call) → i < e → i < length cs
+    → rewritten moves (pick b (get_or cs i none) call) (i + 1) e (set cs i call) ≡ rewritten moves call i e cs
+rewritten-back {moves} q call i e cs h l = rw (← q, add-one) (sym (rewritten-turn moves call i e cs h l))
 
 rewritten-length : (moves : Bool) (call : Call) (i e : ℕ) (cs : List Call) → length (rewritten moves call i e cs) ≡ length cs
 unfolding rewritten
@@ -118,7 +123,7 @@ cleared (c ∷ cs) = ap (λ r. 0 ∷ 0 ∷ 0 ∷ 0 ∷ r) (cleared cs)
 pub map_is : (calls : List Call) {n : ℕ} → Held call_row n (numbers_of calls) → (n ≤ length calls) × (map_in call_row n (numbers_of calls) ≡ rows_in n calls)
 map_is calls {n} h =
     let many : n ≤ length calls = leb-true n (length calls) (both_first _ _ (sym (order_is n calls) ∙ held-in-order h)) in
-    (many, rows_in n calls many)
+    (many, first-rows n calls many)
 
 module _ (calls : List Call) (call : Call) {n : ℕ} (h : Held call_row n (numbers_of calls)) where
   abbrev m : List (List ℕ)
@@ -181,7 +186,7 @@ module _ (calls : List Call) (call : Call) {n : ℕ} (h : Held call_row n (numbe
       record {
         held = in-order-held (omega arith) (order_is count after ∙ rw (le-leb count (length after) within, rises, rest) (behind held room));
         says = rw (is-map, grown, numbers-length calls, le-leb (count * call_row) (length calls * call_row) (omega (arith, within, rewritten-length true call at (suc (pick held at n)) calls)));
-        leaves = rows_in count after within ∙ fresh ∙ ap (inserted key_of (row_of call)) (sym is-map);
+        leaves = first-rows count after within ∙ fresh ∙ ap (inserted key_of (row_of call)) (sym is-map);
       }
 
 -- ---- the same, as the code meets it

@@ -1,5 +1,3 @@
-pub mod Prelude
 pub mod RecordLaws
 pub mod ToldLaws
 pub mod EditLaws
-pub mod Walk

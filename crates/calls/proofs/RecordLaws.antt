@@ -16,11 +16,11 @@ numbers-length [] = refl
 numbers-length (c ∷ cs) = omega (arith, numbers-length cs)
 
 -- the first rows, and the others
-pub rows_in : (n : ℕ) (calls : List Call) → n ≤ length calls → map_in call_row n (numbers_of calls) ≡ rows_in n calls
+pub first-rows : (n : ℕ) (calls : List Call) → n ≤ length calls → map_in call_row n (numbers_of calls) ≡ rows_in n calls
 unfolding map_in flat
-rows_in zero calls h = refl
-rows_in (suc n) [] h = absurd (not-suc-le-zero h)
-rows_in (suc n) (c ∷ cs) h = ap (λ r. row_of c ∷ r) (rows_in n cs (le_of_suc-le-suc h))
+first-rows zero calls h = refl
+first-rows (suc n) [] h = absurd (not-suc-le-zero h)
+first-rows (suc n) (c ∷ cs) h = ap (λ r. row_of c ∷ r) (first-rows n cs (le_of_suc-le-suc h))
 
 rows_behind : (n : ℕ) (calls : List Call) → drop (n * call_row) (numbers_of calls) ≡ numbers_of (drop n calls)
 unfolding flat
@@ -55,7 +55,7 @@ order_is n calls = step (leb n (length calls)) refl
         ≡ both b (follows n calls)
     step true e =
         let fits : n ≤ length calls = leb-true _ _ e in
-        rw (le-leb (n * call_row) (length (numbers_of calls)) (omega (arith, many, fits)), rows_in n calls fits, rows_behind n calls)
+        rw (le-leb (n * call_row) (length (numbers_of calls)) (omega (arith, many, fits)), first-rows n calls fits, rows_behind n calls)
     step false e =
         let less = leb-false n (length calls) e in
         rw (lt-leb (n * call_row) (length (numbers_of calls)) (omega (arith, many, less)))

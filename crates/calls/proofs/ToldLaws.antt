@@ -37,7 +37,7 @@ pub record Says (all n x i : ℕ) (cs : List Call) (t : Told) : Type 0 where
   counts : t.count ≡ n
   asks : t.address ≡ x
   places : t.places ≡ all
-  ends : i + length cs ≡ all
+  pub ends : i + length cs ≡ all
   next : i < n → t.next ≡ first cs
   ordered : t.is_ordered ≡ both (leb n all) (follows (n - i) cs)
   called : t.is_called ≡ is_destination (x + 4) (rows_in (n - i) cs)

@@ -1,15 +1,16 @@
 // A list of calls in a slice of records that a host lends. The records' numbers one after another are the rows of which the
 // definitions speak.
 //
-// The prover covers no function over references to records. `tell`, the lookup, and `put`, the insert, are proved by hand,
-// so they do as little as can be; the rest is left to functions over numbers.
+// Two functions pass over the records: `tell`, the lookup, and `put`, the insert. The rest is left to functions over numbers.
+#![tactic(auto)]
+
 ghost use Rattle.std.specs.Prelude.{◌≡◌};
 ghost use Rattle.base.specs.Choice.{pick};
 ghost use Rattle.calls.specs.Records.{edited, clearing, is_none, seen_by, Tells, Enters};
 
 use rows::Entered;
 
-#[derive(Drop)]
+#[derive(Clone, Copy)]
 pub struct Call {
     pub address: u32,
     pub word: u32,
@@ -18,7 +19,7 @@ pub struct Call {
 }
 
 // What is asked of a list of `count` calls for an address, and what the records tell of it, from the last to the first.
-#[derive(Drop)]
+#[derive(Clone, Copy)]
 pub struct Told {
     pub count: usize,
     pub address: u32,
@@ -37,7 +38,7 @@ pub struct Told {
 
 // A change of the records from `from` to `end`: `call` stands at `from`, and each that stood there moves up by one; or, where
 // nothing moves, `call` stands at every place.
-#[derive(Drop)]
+#[derive(Clone, Copy)]
 pub struct Edit {
     pub from: usize,
     pub end: usize,
@@ -46,7 +47,7 @@ pub struct Edit {
 }
 
 // What entering a call left, and the change that does it.
-#[derive(Drop)]
+#[derive(Clone, Copy)]
 pub struct Entry {
     pub entered: Entered,
     pub edit: Edit,

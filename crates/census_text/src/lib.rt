@@ -1,4 +1,6 @@
 // The census of instruction words as text.
+#![tactic(auto)]
+
 ghost use Rattle.words.specs.Answer.{Answered};
 ghost use Rattle.census_text.specs.Text.{census_text};
 

@@ -1,8 +1,10 @@
 // What a decoder's answers are made of: the classes, the operands and the forms, and the number of each class.
+#![tactic(auto)]
+
 pub mod order;
 
 // The manual's ARM instructions in the order of their printed names, then document 01's own names.
-#[derive(Drop)]
+#[derive(Clone, Copy)]
 pub enum Class {
     Adc,
     Add,
@@ -81,7 +83,7 @@ pub enum Class {
 }
 
 // A shift as addressing mode 1 names it; `Rrx` is the encoding of ROR #0.
-#[derive(Drop)]
+#[derive(Clone, Copy)]
 pub enum ShiftOp {
     Lsl,
     Lsr,
@@ -91,7 +93,7 @@ pub enum ShiftOp {
 }
 
 // The second operand of data processing (addressing mode 1).
-#[derive(Drop)]
+#[derive(Clone, Copy)]
 pub enum Op2 {
     Imm(u32),
     ShiftImm { rm: u8, shift_op: ShiftOp, imm: u8 },
@@ -99,7 +101,7 @@ pub enum Op2 {
 }
 
 // The offset of a load or store of a word or byte (addressing mode 2).
-#[derive(Drop)]
+#[derive(Clone, Copy)]
 pub enum LdrStrOffset {
     Imm(i32),
     Reg {
@@ -111,7 +113,7 @@ pub enum LdrStrOffset {
 }
 
 // Its address: the offset is added before the access or after it. `Post` always writes its base back.
-#[derive(Drop)]
+#[derive(Clone, Copy)]
 pub enum AddrLdrStr {
     Pre {
         rn: u8,
@@ -125,7 +127,7 @@ pub enum AddrLdrStr {
 }
 
 // How a block transfer moves its base (addressing mode 4).
-#[derive(Drop)]
+#[derive(Clone, Copy)]
 pub enum LdmStmMode {
     Da,
     Ia,
@@ -134,7 +136,7 @@ pub enum LdmStmMode {
 }
 
 // What an instruction's operands are, as far as the registers that it reads and writes go.
-#[derive(Drop)]
+#[derive(Clone, Copy)]
 pub enum Form {
     Compute,
     Compare,

@@ -1,6 +1,6 @@
 -- What the code of the blocks comes to: insertions, a block that puts no call, and one block after another.
 -- Assumes nothing.
-use Rattle.base.proofs.Prelude.{◌∙◌, sym, refl, ◌≡◌, ap, false, true, Bool, not, List, [], ◌∷◌, ℕ, ◌+◌, ◌<◌, ◌^◌, arith, eqb, ltb, length, eq-eqb}
+use Rattle.base.proofs.Prelude.{◌∙◌, sym, refl, ◌≡◌, ap, false, true, Bool, not, List, [], ◌∷◌, ℕ, arith, eqb, ltb, length, eq-eqb}
 use Rattle.base.proofs.Prelude.{le-ltb}
 use Rattle.base.specs.Choice.{pick}
 use Rattle.base.specs.Refusals.{list_full}
@@ -16,7 +16,7 @@ use Rattle.context.specs.declared.State.{State}
 use Rattle.context.specs.declared.Stepped.{Stepped}
 use Rattle.context.specs.declared.Then.{Then}
 use Rattle.context.specs.declared.Then.TheVariants.{On, Goes, Ends, Refuses}
-use Rattle.context.specs.Context.{Context, Maps, Step, on, goes, ends, refuses, ◌▸◌, entered, with_maps, call_row, label_row, pool_row, table_row}
+use Rattle.context.specs.Context.{Context, Maps, Step, on, refuses, ◌▸◌, entered, with_maps, call_row, label_row, pool_row, table_row}
 use Rattle.context.specs.Blocks.{call_to}
 use Rattle.context.specs.State.{World, Holds, Settles, Comes, context_of, called, read, is_on, placed, has_place, putting, labels_in, pools_in, jump_tables_in, inline_tables_in, registers_in, count_labels, count_pools, count_jump_tables, count_inline_tables}
 use Rattle.arm.specs.declared.Ins.{Ins}

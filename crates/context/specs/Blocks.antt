@@ -13,10 +13,10 @@ use Rattle.analysis.specs.declared.jump_table.JumpTableAnswer.{JumpTableAnswer}
 use Rattle.analysis.specs.declared.jump_table.JumpTableAnswer.TheVariants.{Next as J-Next, Found as J-Found, Refused as J-Refused}
 use Rattle.analysis.specs.declared.jump_table.TableEnd.{TableEnd}
 use Rattle.analysis.specs.declared.jump_table.TableEnd.TheVariants.{At as E-At, Nothing as E-Nothing, Refused as E-Refused}
-use Rattle.analysis.specs.IllegalCode.{illegal_code as codeMachine}
+use Rattle.analysis.specs.IllegalCode.{illegal_code as code_machine}
 use Rattle.analysis.specs.FunctionBranch.{function_branch, is_function_branch}
-use Rattle.analysis.specs.InlineTable.{inline_table as inlineMachine, table_of}
-use Rattle.analysis.specs.JumpTable.{jump_table as jumpMachine, table_end}
+use Rattle.analysis.specs.InlineTable.{inline_table as inline_machine, table_of}
+use Rattle.analysis.specs.JumpTable.{jump_table as jump_machine, table_end}
 use Rattle.arm.specs.declared.Ins.{Ins}
 use Rattle.arm.specs.Ins.{decode_of, is_conditional}
 use Rattle.base.specs.declared.word.Word.{Word}
@@ -100,7 +100,7 @@ module _ (i : Ins) where
   after_jump J-Refused c = refuses beyond32_bits 0
 
   unfoldable pub jump_table : Context → Step
-  jump_table c = after_jump (jumpMachine c.machines.jump_table c.progress.address i) c
+  jump_table c = after_jump (jump_machine c.machines.jump_table c.progress.address i) c
 
 -- get_labels and is_numerical_jump_offset are Thumb's
 
@@ -119,7 +119,7 @@ coded s c = after_code s (with_machines (illegal_code_to s c.machines) c)
 module _ (i : Ins) where
   -- self.illegal_code_state = self.illegal_code_state.handle(..)
   unfoldable pub illegal_code : Context → Step
-  illegal_code c = coded (codeMachine c.machines.illegal_code i) c
+  illegal_code c = coded (code_machine c.machines.illegal_code i) c
 
   -- if !(0x01ff8000..0x03000000).contains(&destination)
   unfoldable pub branch_outside : Context → Step
@@ -288,7 +288,7 @@ module _ (i : Ins) where
   after_inline T-Refused c = refuses beyond32_bits 0
 
   unfoldable pub inline_table : Context → Step
-  inline_table c = after_inline (inlineMachine c.machines.inline_table false c.progress.address i) c
+  inline_table c = after_inline (inline_machine c.machines.inline_table false c.progress.address i) c
 
 -- ---- the call, and the check of registers. Encrypted ranges (none here) have no part in it
 

@@ -1,6 +1,6 @@
 -- functions.rs, ParseFunctionContext: what a step of the walk works on, with its maps; and what a block of a step comes to.
 -- Assumes nothing.
-use Rattle.std.specs.Prelude.{List, [], ℕ, max}
+use Rattle.std.specs.Prelude.{List, ℕ, max}
 use Rattle.analysis.specs.declared.illegal_code.IllegalCodeState.{IllegalCodeState}
 use Rattle.analysis.specs.declared.function_branch.FunctionBranchState.{FunctionBranchState}
 use Rattle.analysis.specs.declared.inline_table.InlineTableState.{InlineTableState}

@@ -1,7 +1,7 @@
 -- functions.rs, function_parser_loop_inner without its start check: one turn of the loop, from the word at the walk's address to the walk and
 -- the maps after it.
 -- Assumes nothing.
-use Rattle.std.specs.Prelude.{List, [], ℕ, length}
+use Rattle.std.specs.Prelude.{[], ℕ, length}
 use Rattle.arm.specs.Ins.{decode_of}
 use Rattle.base.specs.declared.word.Word.{Word}
 use Rattle.base.specs.declared.word.Word.TheVariants.{Found, Missing}

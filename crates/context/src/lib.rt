@@ -3,6 +3,8 @@
 //
 // An address that may be missing is 0 where it is: no address of a program is 0, and the source's `max` and `<` on options then are those
 // of numbers.
+#![tactic(auto)]
+
 pub mod assign;
 
 ghost use Rattle.std.specs.Prelude.{◌≡◌, ◌+◌, ◌<◌, ◌^◌, ltb};
@@ -24,7 +26,7 @@ pub const TABLE_ROW: usize = 2;
 pub const CALL_ROW: usize = 4;
 
 // The call from the walk's address that a step is to put in the list of calls.
-#[derive(Drop)]
+#[derive(Clone, Copy)]
 pub enum Put {
     Nothing,
     Call {
@@ -36,7 +38,7 @@ pub enum Put {
 
 // `next` is the parser's address, where the walk goes on. The walk's registers stand beside the state, not in it: a block that touches none of
 // them does not move their two arrays.
-#[derive(Drop)]
+#[derive(Clone, Copy)]
 pub struct State {
     pub next: u32,
     pub progress: Progress,
@@ -46,7 +48,7 @@ pub struct State {
 }
 
 // The pool word that a step is to put in a register.
-#[derive(Drop)]
+#[derive(Clone, Copy)]
 pub enum Load {
     Nothing,
     Word {
@@ -57,7 +59,7 @@ pub enum Load {
 }
 
 // What a block comes to: on to the next block, on at the next instruction, the last instruction ended, or a refusal.
-#[derive(Drop)]
+#[derive(Clone, Copy)]
 pub enum Then {
     On,
     Goes,
@@ -65,21 +67,21 @@ pub enum Then {
     Refuses { number: u8, register: u8 },
 }
 
-#[derive(Drop)]
+#[derive(Clone, Copy)]
 pub struct Stepped {
     pub then: Then,
     pub state: State,
 }
 
 // A step, with the pool word that it is to load.
-#[derive(Drop)]
+#[derive(Clone, Copy)]
 pub struct Loaded {
     pub stepped: Stepped,
     pub load: Load,
 }
 
 // A step, with the registers after it.
-#[derive(Drop)]
+#[derive(Clone, Copy)]
 pub struct Handled {
     pub stepped: Stepped,
     pub registers: Registers,

@@ -1,5 +1,7 @@
 // The whole walk for programs in other languages: a slice is a pointer and a length, and an answer is twelve numbers. A list's rows stand one after
 // another, so that a host may lend an array of structs of 32-bit numbers.
+#![tactic(auto)]
+
 ghost use Rattle.std.specs.Prelude.{◌≡◌};
 ghost use Rattle.context.specs.Lists.{lists};
 ghost use Rattle.context.specs.Turn.{no_maps, counts_of};

@@ -1,2 +1,4 @@
 // The manual's instruction of a word.
+#![tactic(auto)]
+
 pub mod encoding;

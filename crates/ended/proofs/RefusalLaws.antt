@@ -11,15 +11,15 @@ use Rattle.analysis.specs.declared.jump_table.JumpTableAnswer.{JumpTableAnswer}
 use Rattle.analysis.specs.declared.jump_table.JumpTableAnswer.TheVariants.{Next as J-Next, Found as J-Found, Refused as J-Refused}
 use Rattle.analysis.specs.declared.jump_table.TableEnd.{TableEnd}
 use Rattle.analysis.specs.declared.jump_table.TableEnd.TheVariants.{At as E-At, Nothing as E-Nothing, Refused as E-Refused}
-use Rattle.analysis.specs.IllegalCode.{illegal_code as codeMachine, is_shift, dereferenced, offset_by_itself, reads_pc_into_pc}
-use Rattle.analysis.specs.InlineTable.{inline_table as inlineMachine, table_of}
-use Rattle.analysis.specs.JumpTable.{jump_table as jumpMachine, table_end}
+use Rattle.analysis.specs.IllegalCode.{illegal_code as code_machine, is_shift, dereferenced, offset_by_itself, reads_pc_into_pc}
+use Rattle.analysis.specs.InlineTable.{inline_table as inline_machine, table_of}
+use Rattle.analysis.specs.JumpTable.{jump_table as jump_machine, table_end}
 use Rattle.arm.specs.declared.Ins.{Ins}
 use Rattle.arm.specs.Ins.{is_conditional}
 use Rattle.base.specs.declared.word.Word.{Word}
 use Rattle.base.specs.declared.word.Word.TheVariants.{Found as W-Found, Missing}
 use Rattle.base.specs.Choice.{pick, both, either}
-use Rattle.base.specs.Refusals.{illegal_opcode, shifted_base, offset_by_itself as offsetBase, pc_into_pc, branch_outside as outside, pool_outside}
+use Rattle.base.specs.Refusals.{illegal_opcode, shifted_base, offset_by_itself as offset_base, pc_into_pc, branch_outside as outside, pool_outside}
 use Rattle.base.specs.Refusals.{undefined_register as undefined, beyond32_bits, list_full}
 use Rattle.base.specs.Words.{word_from}
 use Rattle.classes.specs.declared.Class.TheVariants.{Illegal as ILLEGAL}
@@ -104,7 +104,7 @@ raised-late E-Refused c = is-refused beyond32_bits refl
 module _ (i : Ins) where
   jump_table-late : (c : Context) → Late (jump_table i c)
   unfolding jump_table
-  jump_table-late c = step (jumpMachine c.machines.jump_table c.progress.address i)
+  jump_table-late c = step (jump_machine c.machines.jump_table c.progress.address i)
     where
       step : (a : JumpTableAnswer) → Late (after_jump i a c)
       step (J-Next s) = raised-late (table_end s) _
@@ -112,7 +112,7 @@ module _ (i : Ins) where
       step J-Refused = is-refused beyond32_bits refl
 
   illegal_code-late : (c : Context) → Late (illegal_code i c)
-  unfolding illegal_code codeMachine
+  unfolding illegal_code code_machine
   illegal_code-late c =
       step (is i.class ILLEGAL) (is_shift i) (dereferenced c.machines.illegal_code i) (offset_by_itself i) (reads_pc_into_pc i)
     where
@@ -123,7 +123,7 @@ module _ (i : Ins) where
       step true q r t u = is-refused illegal_opcode refl
       step false true r t u = is-on
       step false false true t u = is-refused shifted_base refl
-      step false false false true u = is-refused offsetBase refl
+      step false false false true u = is-refused offset_base refl
       step false false false false true = is-refused pc_into_pc refl
       step false false false false false = is-on
 
@@ -204,7 +204,7 @@ module _ (i : Ins) where
 
   inline_table-late : (c : Context) → Late (inline_table i c)
   unfolding inline_table
-  inline_table-late c = step (inlineMachine c.machines.inline_table false c.progress.address i)
+  inline_table-late c = step (inline_machine c.machines.inline_table false c.progress.address i)
     where
       table : (t : FoundTable) (d : Context) → Late (tabled t d)
       table (Table t) d = inline-late (t.address ∷ t.size ∷ []) d

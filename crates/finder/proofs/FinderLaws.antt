@@ -1,8 +1,7 @@
 -- From what the parts of the work give to what is found and listed.
 -- Assumes nothing.
-use Rattle.base.proofs.Prelude.{refl, ◌≡◌, ap, false, true, Bool, List, [], ◌++◌, ◌≤◌, ℕ, ◌+◌, ◌*◌, ◌/◌, arith, leb, length, length-append, leb-false}
+use Rattle.base.proofs.Prelude.{refl, ◌≡◌, ap, false, true, Bool, List, [], ◌++◌, ◌≤◌, ℕ, ◌+◌, ◌*◌, arith, leb, length, length-append, leb-false}
 use Rattle.base.specs.Refusals.{bad_request}
-use Rattle.context.specs.Context.{label_row, pool_row, table_row, call_row}
 use Rattle.context.specs.Lists.{Lists, maps_in}
 use Rattle.context.specs.Turn.{no_maps, counts_of}
 use Rattle.ended.specs.Ended.{EndedBy}
@@ -31,7 +30,7 @@ use Rattle.words.specs.Names.{bytes}
 use Rattle.words.specs.declared.Answer as words
 use Rattle.words.specs.declared.Answer.TheVariants.{Text, NoRoom}
 use Rattle.finder.specs.declared.Outcome.{Outcome}
-use Rattle.finder.specs.Finder.{Listing, Finds, found_by, found_in, found, text_by, room_by, Listed}
+use Rattle.finder.specs.Finder.{entries_in, Listing, Finds, found_by, found_in, found, text_by, room_by, Listed}
 
 pub run-finds : (r : Request) (code : List ℕ) (n : Counts) (before after : Lists) (s : Stepped)
     → n ≡ counts_of no_maps
@@ -135,21 +134,15 @@ listed-within {input} {out} {left} {before} {r = r} {n = n} h is = go (leb room 
         rw (q, put_front) (simp length-append (omega arith))
     go false p q = let z : ◌≡◌ {A = ℕ} 0 1 = cc in absurd (omega arith)
 
--- the rows that the lists have places for
-abbrev pub rows_in : Lists → ℕ
-rows_in l =
-    length l.labels / label_row + length l.pools / pool_row + length l.jump_tables / table_row + length l.inline_tables / table_row
-    + length l.calls / call_row
-
 -- a buffer with 45 bytes, and 40 for each of them, is never too short
-pub room_most : (l : Lists) (n : Counts) → room_for l n ≤ 45 + 40 * rows_in l
+pub room_most : (l : Lists) (n : Counts) → room_for l n ≤ 45 + 40 * entries_in l
 unfolding room_for room_with shown
 room_most l n = omega arith
 
 -- so NoRoom never comes for one
 pub never-short : {input out left : List ℕ} {before after : Lists} {r : words.Answer}
     → Listed input before after out r left
-    → 45 + 40 * rows_in after ≤ length out
+    → 45 + 40 * entries_in after ≤ length out
     → r ≡ NoRoom → ⊥
 never-short {input} {out} {before = before} {after = after} {r = r} h most = go (leb room (length out)) refl h.text.answer
   where

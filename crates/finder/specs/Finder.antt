@@ -1,7 +1,8 @@
 -- Document 01: what the listing program finds and prints for an input.
 -- Assumes nothing.
-use Rattle.std.specs.Prelude.{ℕ, ◌≡◌, List, []}
+use Rattle.std.specs.Prelude.{ℕ, ◌≡◌, ◌+◌, ◌/◌, List, [], length}
 use Rattle.base.specs.Refusals.{bad_request}
+use Rattle.context.specs.Context.{label_row, pool_row, table_row, call_row}
 use Rattle.context.specs.Lists.{Lists}
 use Rattle.context.specs.Turn.{no_maps, counts_of}
 use Rattle.stepper.specs.Stepper.{After, refused}
@@ -54,3 +55,9 @@ room_by g = room_for g.lists g.counts
 pub record Listed (input : List ℕ) (before after : Lists) (out : List ℕ) (r : words.Answer) (left : List ℕ) : Type 0 where
   pub text : Answered (text_by (found input before)) (room_by (found input before)) out r left
   pub holds : after ≡ (found input before).lists
+
+-- how many entries the lists have places for
+abbrev pub entries_in : Lists → ℕ
+entries_in l =
+    length l.labels / label_row + length l.pools / pool_row + length l.jump_tables / table_row + length l.inline_tables / table_row
+    + length l.calls / call_row

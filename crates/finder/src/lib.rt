@@ -1,4 +1,8 @@
 // The listing program's work on slices: a request in, the listing of the function out.
+#![tactic(auto)]
+
+pub mod output;
+
 ghost use Rattle.std.specs.Prelude.{◌≡◌};
 ghost use Rattle.context.specs.Lists.{lists};
 ghost use Rattle.words.specs.declared.Answer.TheVariants.{Text, NoRoom};
@@ -10,7 +14,7 @@ use request::{Parsed, Request};
 use walk::{Answer, Counts};
 
 // The answer to a request; how many entries of each list go with it.
-#[derive(Drop)]
+#[derive(Clone, Copy)]
 pub struct Outcome {
     pub answer: Answer,
     pub counts: Counts,

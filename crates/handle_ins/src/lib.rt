@@ -1,4 +1,6 @@
 // handle_ins over five lists of rows: the blocks of a step, and the call that they put in its list.
+#![tactic(auto)]
+
 ghost use Rattle.std.specs.Prelude.{◌≡◌, true, ◌+◌, ◌<◌, ◌^◌, length};
 ghost use Rattle.context.specs.Context.{call_row};
 ghost use Rattle.context.specs.Blocks.{is_destination, handle_ins};

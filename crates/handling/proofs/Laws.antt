@@ -1,12 +1,12 @@
 -- One block of a step after another, each lent only the lists that it touches.
 -- Assumes nothing.
-use Rattle.base.proofs.Prelude.{◌∙◌, sym, refl, ◌≡◌, ap, subst, false, true, Bool, not, List, [], ◌∷◌, map, ◌≤◌, ℕ, ◌+◌, ◌<◌, ◌-◌, suc, ◌*◌, zero}
-use Rattle.base.proofs.Prelude.{arith, ltb, length, replicate, length-replicate, eq-eqb, lt-ltb, not-false, not-true}
+use Rattle.base.proofs.Prelude.{◌∙◌, sym, refl, ◌≡◌, ap, subst, false, true, Bool, List, [], ◌∷◌, map, ℕ, ◌+◌, ◌<◌, ◌-◌, suc, ◌*◌, zero}
+use Rattle.base.proofs.Prelude.{arith, length, replicate, length-replicate, eq-eqb, lt-ltb}
 use Rattle.base.specs.Choice.{pick}
 use Rattle.arm.specs.declared.Ins.{Ins}
 use Rattle.registers.specs.Registers.{forgotten}
 use Rattle.rows.specs.Order.{rising, ascending}
-use Rattle.rows.specs.Map.{key_of, Wide, Map, Held, encode}
+use Rattle.rows.specs.Map.{key_of, Wide, Held, encode}
 use Rattle.rows.proofs.MapLaws.{encode-held}
 use Rattle.walk.specs.declared.Counts.{Counts}
 use Rattle.walk.specs.declared.KnownEnd.TheVariants.{Nothing}
@@ -159,11 +159,11 @@ stop-all [] off t = t
 stop-all (f ∷ fs) off t = stop-all fs off (stop f off t)
 
 -- what the code asked of the block before
-pub went_on : {b t : Bool} → b ≡ t → not b ≡ false → t ≡ true
-went_on {b} e left = sym e ∙ not-false b left
+pub went_on : {b t : Bool} → b ≡ t → b ≡ true → t ≡ true
+went_on e left = sym e ∙ left
 
-pub stopped : {b t : Bool} → b ≡ t → not b ≡ true → t ≡ false
-stopped {b} e taken = sym e ∙ not-true b taken
+pub stopped : {b t : Bool} → b ≡ t → b ≡ false → t ≡ false
+stopped e taken = sym e ∙ taken
 
 -- ---- to_return: behind its first blocks f the code has come to r, with these pools and jump tables. A law for each kind of block, by what it is lent
 
@@ -224,6 +224,22 @@ pub record Entry : Type 0 where
   pub labels : List ℕ
   pub pools : List ℕ
   pub inlines : List ℕ
+
+-- what is handed to from_return
+abbrev pub entry : Options → State → ℕ → Bool → Bool → Bool → List ℕ → List ℕ → List ℕ → List ℕ → List ℕ → Entry
+entry o s size inside returns called code starts labels pools inlines = record {
+  options = o;
+  state = s;
+  size = size;
+  inside = inside;
+  returns = returns;
+  called = called;
+  code = code;
+  starts = starts;
+  labels = labels;
+  pools = pools;
+  inlines = inlines;
+}
 
 -- the world with these labels, pools and inline tables
 abbrev pub lent : Entry → List ℕ → List ℕ → List ℕ → World → World

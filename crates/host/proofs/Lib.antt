@@ -1,5 +1,2 @@
--- The laws behind this crate's proofs, and steps for its walks by hand.
+-- The laws behind this crate's proofs.
 pub mod Laws
-pub mod Lend
-pub mod Shared
-pub mod Values

@@ -1,8 +1,10 @@
 // The function walk for a host that lends its calls as records: `stepper`'s begin and step, where the list of calls is the records' numbers
 // one after another.
 //
-// The prover covers no function over references to records. `begin` and `step` are proved by hand, so they are a few calls in a row: what the
-// records tell, the step over all else (the module `told`), and the change of the records that it leaves.
+// `begin` and `step` are a few calls in a row: what the records tell, the step over all else (the module `told`), and the change of the records
+// that it leaves.
+#![tactic(auto)]
+
 mod told;
 
 ghost use Rattle.stepper.specs.Stepper.{Called, begin, step};

@@ -14,7 +14,7 @@ use turn_told::{Looked, turn};
 use walk::{Answer, Counts, Options, Walk};
 
 // What a call answers, and the change of the records that is left to do.
-#[derive(Drop)]
+#[derive(Clone, Copy)]
 pub struct Done {
     pub answered: Answered,
     pub edit: Edit,

@@ -12,9 +12,9 @@ use Rattle.analysis.specs.declared.jump_table.JumpTableAnswer.{JumpTableAnswer}
 use Rattle.analysis.specs.declared.jump_table.JumpTableAnswer.TheVariants.{Next as J-Next, Found as J-Found, Refused as J-Refused}
 use Rattle.analysis.specs.declared.jump_table.TableEnd.{TableEnd}
 use Rattle.analysis.specs.declared.jump_table.TableEnd.TheVariants.{At as E-At, Nothing as E-Nothing, Refused as E-Refused}
-use Rattle.analysis.specs.IllegalCode.{illegal_code as codeMachine}
-use Rattle.analysis.specs.InlineTable.{inline_table as inlineMachine, table_of}
-use Rattle.analysis.specs.JumpTable.{jump_table as jumpMachine, table_end}
+use Rattle.analysis.specs.IllegalCode.{illegal_code as code_machine}
+use Rattle.analysis.specs.InlineTable.{inline_table as inline_machine, table_of}
+use Rattle.analysis.specs.JumpTable.{jump_table as jump_machine, table_end}
 use Rattle.arm.specs.declared.Ins.{Ins}
 use Rattle.arm.specs.Ins.{is_conditional}
 use Rattle.base.specs.declared.word.Word.{Word}
@@ -171,7 +171,7 @@ module _ (i : Ins) (size : ℕ) (P G : Context → Type 0) (E : ℕ → Context 
 
   jump_table-kept : (c : Context) → P c → Meet (jump_table i c)
   unfolding jump_table
-  jump_table-kept c p = jump_kept (jumpMachine c.machines.jump_table c.progress.address i) c p
+  jump_table-kept c p = jump_kept (jump_machine c.machines.jump_table c.progress.address i) c p
 
   code-kept : (s : IllegalCodeState) (c : Context) → P c → Meet (after_code s c)
   code-kept Start c p = is-on p
@@ -180,7 +180,7 @@ module _ (i : Ins) (size : ℕ) (P G : Context → Type 0) (E : ℕ → Context 
 
   illegal_code-kept : (c : Context) → P c → Meet (illegal_code i c)
   unfolding illegal_code
-  illegal_code-kept c p = code-kept (codeMachine c.machines.illegal_code i) _ (k.machines _ c p)
+  illegal_code-kept c p = code-kept (code_machine c.machines.illegal_code i) _ (k.machines _ c p)
 
   branch_outside-kept : (c : Context) → P c → Meet (branch_outside i c)
   unfolding branch_outside
@@ -247,7 +247,7 @@ module _ (i : Ins) (size : ℕ) (P G : Context → Type 0) (E : ℕ → Context 
 
   inline_table-kept : (c : Context) → P c → Meet (inline_table i c)
   unfolding inline_table
-  inline_table-kept c p = inline-kept (inlineMachine c.machines.inline_table false c.progress.address i) c p
+  inline_table-kept c p = inline-kept (inline_machine c.machines.inline_table false c.progress.address i) c p
 
   called-kept : (word : ℕ) (f : Callee) (c : Context) → P c → Meet (called_as i word f c)
   called-kept word No-Call c p = is-on p

@@ -2,7 +2,7 @@
 -- Assumes nothing.
 use Rattle.base.proofs.Prelude.{refl, ◌≡◌, true, false, Bool, List, ◌≤◌, ℕ, ◌<◌, ◌%◌, arith, eqb, length, eq-eqb, le-leb, leb-true, eqb-true}
 use Rattle.base.proofs.ChoiceLaws.{both_true}
-use Rattle.base.specs.Choice.{pick, both}
+use Rattle.base.specs.Choice.{pick}
 use Rattle.context.specs.Context.{label_row, pool_row, table_row}
 use Rattle.context.specs.Lists.{Lists, AllHeld, maps_in}
 use Rattle.context.specs.Turn.{key_or0}

@@ -1,6 +1,6 @@
 -- What the checks ask for holds again after a turn that goes on; and after any turn the lists hold its maps.
 -- Assumes nothing.
-use Rattle.base.proofs.Prelude.{refl, ◌≡◌, ap, true, List, [], ℕ, ◌<◌, ◌*◌, arith, zero-mul, leb, length, leb-true}
+use Rattle.base.proofs.Prelude.{refl, ◌≡◌, ap, true, List, [], ℕ, ◌<◌, arith, zero-mul, leb, length, leb-true}
 use Rattle.arm.specs.Ins.{decode_of}
 use Rattle.base.specs.declared.word.Word.{Word}
 use Rattle.base.specs.declared.word.Word.TheVariants.{Found as W-Found, Missing}

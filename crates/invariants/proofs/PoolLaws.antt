@@ -2,7 +2,7 @@
 -- Assumes nothing.
 use Rattle.base.proofs.Prelude.{◌∙◌, refl, ◌≡◌, ap, false, true, Bool, List, [], ◌∷◌, map, ◌≤◌, ℕ, ◌<◌, suc, zero, ◌/◌, max, arith, eqb, ltb, length}
 use Rattle.base.proofs.Prelude.{set, eqb-true, ltb-true, ltb-false}
-use Rattle.base.specs.Choice.{pick, both, either}
+use Rattle.base.specs.Choice.{pick, either}
 use Rattle.context.specs.Turn.{key_or0}
 use Rattle.registers.specs.Registers.{is_odd, column_forgotten}
 use Rattle.rows.specs.Order.{rising, ascending}

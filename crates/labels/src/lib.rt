@@ -1,4 +1,6 @@
 // `handle_label`: a branch to a label of the function, with the jump past pools.
+#![tactic(auto)]
+
 ghost use Rattle.std.specs.Prelude.{◌≡◌, ◌+◌, ◌<◌, ◌^◌};
 ghost use Rattle.rows.specs.Map.{Held};
 ghost use Rattle.context.specs.Context.{label_row, pool_row};

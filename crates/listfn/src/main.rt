@@ -1,8 +1,13 @@
 // Reads a request from standard input, and writes the listing of the function that starts there.
-fn main() {
+#![tactic(auto)]
+
+use finder::output::write_listing;
+use std::io;
+
+fn main(rt: HostRuntime) -> io::Result<()> {
     // One byte more than is taken, so that a longer input is seen as too long.
-    let mut input = [0u8; 16411];
-    let n = io::read_full(0, &mut input);
+    let mut input = vec![in rt.alloc(); 0u8; 16411]?;
+    let n = streams::read_full(&mut rt.stdin(), &mut input)?;
     // Rows one after another: a pool has three numbers, a table two, a call four.
     let mut labels = [0u32; 1024];
     let mut pools = [0u32; 3 * 1024];
@@ -10,8 +15,9 @@ fn main() {
     let mut inline_tables = [0u32; 2 * 64];
     let mut calls = [0u32; 4 * 1024];
     // A first line of 45 bytes, and 40 for each entry.
-    let mut out = [0u8; 128045];
-    let answer = finder::list_function(
+    let mut out = vec![in rt.alloc(); 0u8; 128045]?;
+    write_listing(
+        &mut rt.stdout(),
         &input[..n],
         &mut labels[..],
         &mut pools[..],
@@ -19,7 +25,5 @@ fn main() {
         &mut inline_tables[..],
         &mut calls[..],
         &mut out,
-    );
-    let length = finder::text_length(answer);
-    io::write_all(1, &out[..length]);
+    )
 }

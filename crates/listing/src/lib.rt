@@ -1,4 +1,6 @@
 // The listing of a walk's answer and lists, as document 01 has it. A list is lent as rows, whose numbers `context` tells.
+#![tactic(auto)]
+
 ghost use Rattle.std.specs.Prelude.{◌≡◌, ◌+◌, ◌*◌, ◌^◌, ◌≤◌, ◌<◌, min, eqb, leb, length};
 ghost use Rattle.context.specs.Lists.{lists, maps_in};
 ghost use Rattle.rows.specs.Map.{map_in};

@@ -1,17 +1,24 @@
 // Reads inputs of `listfn` one after another, each behind a count of its bytes (four, big-endian), and writes what `listfn` writes for each.
-ghost use Rattle.std.specs.Prelude.{◌≤◌, length};
+#![tactic(auto)]
+
+ghost use Rattle.std.specs.Prelude.{IfOk, ◌≤◌, length};
+
+use finder::output::write_listing;
+use std::alloc::Global;
+use std::io::{self, Stdin, Stdout};
 
 const MOST_INPUTS: usize = 100_000_000;
 
-fn list(input: &[u8]) {
+fn list(alloc: Global, output: &mut Stdout, input: &[u8]) -> io::Result<()> {
     // Rows one after another: a pool has three numbers, a table two, a call four.
     let mut labels = [0u32; 1024];
     let mut pools = [0u32; 3 * 1024];
     let mut jump_tables = [0u32; 2 * 64];
     let mut inline_tables = [0u32; 2 * 64];
     let mut calls = [0u32; 4 * 1024];
-    let mut out = [0u8; 128045];
-    let answer = finder::list_function(
+    let mut out = vec![in alloc; 0u8; 128045]?;
+    write_listing(
+        output,
         input,
         &mut labels[..],
         &mut pools[..],
@@ -19,41 +26,40 @@ fn list(input: &[u8]) {
         &mut inline_tables[..],
         &mut calls[..],
         &mut out,
-    );
-    let length = finder::text_length(answer);
-    io::write_all(1, &out[..length]);
+    )
 }
 
 // The next bytes, as many as the count says or are left.
-fn read_next(input: &mut [u8], count: usize) -> usize
+fn read_next(from: &mut Stdin, input: &mut [u8], count: usize) -> io::Result<usize>
     requires { count ≤ length input.old }
-    ensures { result ≤ length input.old }
+    ensures { IfOk result (λ n. n ≤ length input.old) }
 {
-    io::read_full(0, &mut input[..count])
+    streams::read_full(from, &mut input[..count])
 }
 
 // False at the end, and where a count is above what `listfn` reads.
-fn list_next() -> bool {
+fn list_next(alloc: Global, from: &mut Stdin, output: &mut Stdout) -> io::Result<bool> {
     let mut head = [0u8; 4];
-    if io::read_full(0, &mut head) < 4 {
-        return false;
+    if streams::read_full(from, &mut head)? < 4 {
+        return Ok(false);
     }
     let count = words::word_at(&head, 0) as usize;
     if 16411 < count {
-        return false;
+        return Ok(false);
     }
-    let mut input = [0u8; 16411];
-    let n = read_next(&mut input, count);
-    list(&input[..n]);
-    true
+    let mut input = vec![in alloc; 0u8; 16411]?;
+    let n = read_next(from, &mut input, count)?;
+    list(alloc, output, &input[..n])?;
+    Ok(true)
 }
 
-fn main() {
-    let mut turn = 0;
-    while turn < MOST_INPUTS {
-        if !list_next() {
-            return;
+fn main(rt: HostRuntime) -> io::Result<()> {
+    let mut from = rt.stdin();
+    let mut output = rt.stdout();
+    for _ in 0..MOST_INPUTS {
+        if !list_next(rt.alloc(), &mut from, &mut output)? {
+            break;
         }
-        turn += 1;
     }
+    Ok(())
 }

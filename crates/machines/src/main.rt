@@ -1,6 +1,8 @@
 // Reads records of eight numbers, four bytes each, big-endian: a machine, its state (a tag and three numbers), Thumb or not, an address and
 // the word there. Hands the instruction to the machine and writes a line of seven numbers: the machine, its next state, and what it tells
 // its caller. A refused sum has the tag ffffffff.
+#![tactic(auto)]
+
 ghost use Rattle.std.specs.Prelude.{◌+◌, ◌≤◌, length};
 
 use analysis::function_branch::FunctionBranchState;
@@ -8,8 +10,9 @@ use analysis::illegal_code::IllegalCodeState;
 use analysis::inline_table::{FoundTable, InlineTable, InlineTableAnswer, InlineTableState};
 use analysis::jump_table::{JumpTableAnswer, JumpTableStateArm, TableEnd};
 use arm::Ins;
+use std::io::{self, Write};
 
-#[derive(Drop)]
+#[derive(Clone, Copy)]
 struct Row {
     tag: u32,
     a: u32,
@@ -235,15 +238,21 @@ fn put_next(given: &[u8], line: &mut [u8])
     put_row(line, machine, row);
 }
 
-fn main() {
-    let mut input = [0u8; 262144];
-    let n = io::read_full(0, &mut input);
+// A line for each record; what is left over at the end is none.
+fn write_lines<W: Write>(output: &mut W, input: &[u8]) -> io::Result<()> {
     let mut i = 0;
-    while 32 <= n - i {
+    while 32 <= input.len() - i {
         let end = i + 32;
         let mut line = *b"                                                              \n";
         put_next(&input[i..end], &mut line);
-        io::write_all(1, &line);
+        output.write_all(&line)?;
         i = end;
     }
+    Ok(())
+}
+
+fn main(rt: HostRuntime) -> io::Result<()> {
+    let mut input = vec![in rt.alloc(); 0u8; 262144]?;
+    let n = streams::read_full(&mut rt.stdin(), &mut input)?;
+    write_lines(&mut rt.stdout(), &input[..n])
 }

@@ -1,6 +1,6 @@
 -- Runs of what the marked ones leave out. Each has base and module start 0x02000000.
 -- Assumes nothing.
-use Rattle.base.proofs.Prelude.{◌∙◌, refl, ◌≡◌, false, List, [], ◌∷◌, map, ℕ}
+use Rattle.base.proofs.Prelude.{◌∙◌, refl, ◌≡◌, false, List, [], ◌∷◌, map}
 use Rattle.context.specs.Blocks.{other, arm, thumb}
 use Rattle.walk.specs.declared.Answer.TheVariants.{Refused}
 use Rattle.walk.specs.declared.Counts.{Counts}

@@ -1,4 +1,6 @@
 // What a step comes to: the walk after it, and the lists after a refusal.
+#![tactic(auto)]
+
 ghost use Rattle.std.specs.Prelude.{◌≡◌};
 ghost use Rattle.context.specs.Context.{pool_row};
 ghost use Rattle.context.specs.Lists.{lists, AllHeld, zeroed};

@@ -1,4 +1,6 @@
 // What the function walk asks of one instruction (functions.rs of ds-decomp), in the source's names.
+#![tactic(auto)]
+
 ghost use Rattle.std.specs.Prelude.{◌≡◌};
 ghost use Rattle.predicates.specs.Predicates.{has_lr, has_pc, is_entry_instruction, is_branch, is_off_pc, is_pool_load, offset_of, immediate_of, pool_address};
 ghost use Rattle.predicates.specs.Predicates.{is_bx, is_mov_pc, is_ia, is_ldm_pc, is_pop_pc, is_branch_back, is_subs_pc_lr, is_ldr_pc, is_ror, is_ror_by_register, is_eor_pc, is_lsl_by_number, is_add_pc};
@@ -11,7 +13,7 @@ use classes::{AddrLdrStr, Class, LdmStmMode, LdrStrOffset, Op2, ShiftOp};
 const NE: u8 = 1;
 
 // What the walk asks of the word that the step before found: of none, all is false.
-#[derive(Drop)]
+#[derive(Clone, Copy)]
 pub struct Previous {
     pub is_branch: bool,
     pub is_conditional: bool,
@@ -19,7 +21,7 @@ pub struct Previous {
 }
 
 // The mode of the function that an instruction calls.
-#[derive(Drop)]
+#[derive(Clone, Copy)]
 pub enum Callee {
     Nothing,
     Arm,

@@ -1,8 +1,11 @@
 // Reads records of a word and its address, four bytes each, big-endian, and writes for each: the word, the address, where a branch with
 // that word goes, its immediate load or store offset as 32 bits, and its immediate operand. A register in their place is written as 0.
+#![tactic(auto)]
+
 ghost use Rattle.std.specs.Prelude.{◌+◌, ◌≤◌, length};
 
 use classes::{AddrLdrStr, LdrStrOffset, Op2};
+use std::io::{self, Write};
 
 fn number(bytes: &[u8], at: usize) -> u32
     requires { at + 4 ≤ length bytes.now }
@@ -72,14 +75,20 @@ fn put_record(line: &mut [u8], word: u32, address: u32)
     text::put_hex(line, 36, 8, immediate(op2));
 }
 
-fn main() {
-    let mut input = [0u8; 4096];
-    let n = io::read_full(0, &mut input);
+// A line for each record; what is left over at the end is none.
+fn write_lines<W: Write>(output: &mut W, input: &[u8]) -> io::Result<()> {
     let mut i = 0;
-    while 8 <= n - i {
+    while 8 <= input.len() - i {
         let mut line = *b"                                            \n";
-        put_record(&mut line, number(&input, i), number(&input, i + 4));
-        io::write_all(1, &line);
+        put_record(&mut line, number(input, i), number(input, i + 4));
+        output.write_all(&line)?;
         i += 8;
     }
+    Ok(())
+}
+
+fn main(rt: HostRuntime) -> io::Result<()> {
+    let mut input = vec![in rt.alloc(); 0u8; 4096]?;
+    let n = streams::read_full(&mut rt.stdin(), &mut input)?;
+    write_lines(&mut rt.stdout(), &input[..n])
 }

@@ -1,6 +1,6 @@
 -- Sets of registers as 16 bits, and the pool words that registers hold: 0 where there is none.
 -- Assumes nothing.
-use Rattle.std.specs.Prelude.{ℕ, zero, suc, ◌+◌, ◌/◌, ◌%◌, ◌^◌, Bool, true, false, not, List, [], ◌∷◌, eqb, get_or, set}
+use Rattle.std.specs.Prelude.{ℕ, zero, suc, ◌+◌, ◌/◌, ◌%◌, ◌^◌, Bool, not, List, [], ◌∷◌, eqb, get_or, set}
 use Rattle.base.specs.Choice.{pick, both}
 use Rattle.registers.specs.declared.Registers.{Registers}
 

@@ -1,9 +1,11 @@
 // Sets of registers as 16 bits, and the pool words that registers hold (`register_values` of ds-decomp's walk).
+#![tactic(auto)]
+
 ghost use Rattle.std.specs.Prelude.{◌≡◌};
 ghost use Rattle.registers.specs.Registers.{forgotten, holding, source_of, lowest_missing, only};
 
 // Per register, the pool word that it was loaded from: its value and its address, or zeros.
-#[derive(Drop)]
+#[derive(Clone, Copy)]
 pub struct Registers {
     pub values: [u32; 16],
     pub sources: [u32; 16],

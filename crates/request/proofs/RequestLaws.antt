@@ -3,7 +3,7 @@
 use Rattle.base.proofs.Prelude.{◌∙◌, refl, ◌≡◌, false, true, Bool, List, [], ◌≤◌, ℕ, ◌+◌, arith, leb, length, length-drop, eq-eqb, le-leb, leb-true}
 use Rattle.base.proofs.Prelude.{eqb-true}
 use Rattle.base.proofs.ChoiceLaws.{both_true}
-use Rattle.base.specs.Choice.{pick, both}
+use Rattle.base.specs.Choice.{pick}
 use Rattle.words.specs.Lines.{word_at}
 use Rattle.request.specs.declared.Parsed.TheVariants.{Asked, Refused}
 use Rattle.request.specs.declared.Request.{Request}

@@ -1,16 +1,18 @@
 // What the listing program reads: a request, or an input that it refuses.
+#![tactic(auto)]
+
 ghost use Rattle.std.specs.Prelude.{◌≡◌, ◌≤◌, length};
 ghost use Rattle.request.specs.Request.{is_request, known_end, request_of, parsed};
 
 use walk::{KnownEnd, Options};
 
-#[derive(Drop)]
+#[derive(Clone, Copy)]
 pub struct Request {
     pub options: Options,
     pub start: u32,
 }
 
-#[derive(Drop)]
+#[derive(Clone, Copy)]
 pub enum Parsed {
     Asked(Request),
     Refused,

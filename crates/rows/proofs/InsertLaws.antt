@@ -1,15 +1,14 @@
 -- The laws of an insert: the numbers that it moves and writes are those of the map after it.
 -- Assumes nothing.
-use Rattle.base.proofs.Prelude.{◌∙◌, sym, refl, ◌≡◌, ap, false, true, Bool, not, List, [], ◌∷◌, ◌++◌, map, append_assoc, append-nil, ◌≤◌, ℕ, ◌+◌, ◌<◌}
+use Rattle.base.proofs.Prelude.{◌∙◌, sym, refl, ◌≡◌, ap, false, true, Bool, not, List, [], ◌∷◌, ◌++◌, append_assoc, append-nil, ◌≤◌, ℕ, ◌+◌, ◌<◌}
 use Rattle.base.proofs.Prelude.{◌-◌, suc, ◌*◌, zero, arith, le_of_suc-le-suc, not-suc-le-zero, zero-mul, suc-mul, add-one, leb, length, get_or, drop}
-use Rattle.base.proofs.Prelude.{take, replicate, length-set, set, length-append, length-replicate, take-append-drop, length-take-le, take_at, drop_at}
+use Rattle.base.proofs.Prelude.{take, replicate, length-set, set, take-append-drop, length-take-le, take_at, drop_at}
 use Rattle.base.proofs.Prelude.{get_or-take, le-leb, lt-leb}
 use lib.ListN.{get_or-append}
 use lib.Seq.{slice, paste, take-suc, slice_empty, slice-cons, set_at, append_snoc, take-append-le, drop-append-le, take-append-add, drop-append-add, take-take}
 use Rattle.base.specs.Choice.{pick}
 use Rattle.rows.specs.Rows.{padded, insert_at, rank, stands, inserted}
 use Rattle.rows.proofs.RowLaws.{insert_at-length, rank-within, stands-within, inserted-is, inserted-length, ascending-kept}
-use Rattle.rows.specs.declared.Entered.{Entered}
 use Rattle.rows.specs.declared.Change.{Change}
 use Rattle.rows.specs.declared.Change.TheVariants.{Added, Replaced, Full}
 use Rattle.rows.specs.Map.{key_of, Wide, Map, flat, encode, map_in, Held, holds_at, opened, answer, map_after, count_after, fits, Inserted, Entering}

@@ -1,13 +1,12 @@
 -- The laws of a map in a slice: its rows, and the slice told by them.
 -- Assumes nothing.
-use Rattle.base.proofs.Prelude.{◌∙◌, sym, refl, ◌≡◌, ap, false, true, Bool, List, [], ◌∷◌, ◌++◌, map, append_assoc, ◌≤◌, ℕ, ◌+◌, ◌<◌, ◌-◌, suc, ◌*◌}
+use Rattle.base.proofs.Prelude.{◌∙◌, sym, refl, ◌≡◌, ap, false, true, List, [], ◌∷◌, ◌++◌, map, append_assoc, ◌≤◌, ℕ, ◌+◌, ◌<◌, ◌-◌, suc, ◌*◌}
 use Rattle.base.proofs.Prelude.{zero, arith, le_of_suc-le-suc, not-suc-le-zero, add-zero, zero-mul, suc-mul, leb, length, get_or, drop, take, replicate}
 use Rattle.base.proofs.Prelude.{length-drop, length-append, length-replicate, length-take-le, take_at, drop_at, drop-drop, get_or-drop, get_or-take}
 use Rattle.base.proofs.Prelude.{le-leb, leb-true}
 use native.Mathlib.Nat.{mul-le-mul_left, mul-le-mul_right}
 use lib.ListN.{replicate-append-replicate, get_or-map}
 use lib.Seq.{take-add}
-use Rattle.base.specs.Choice.{pick}
 use Rattle.rows.specs.Order.{rising, ascending, zeros, cleared}
 use Rattle.rows.specs.Rows.{padded}
 use Rattle.rows.proofs.OrderLaws.{zeros-replicate, cleared-padded, padded-cleared}

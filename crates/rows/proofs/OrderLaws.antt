@@ -1,6 +1,6 @@
 -- The laws of `ascending`, `zeros` and what follows from them.
 -- Assumes nothing.
-use Rattle.base.proofs.Prelude.{◌∙◌, sym, refl, ◌≡◌, ap, false, true, Bool, false≢true, List, [], ◌∷◌, ◌++◌, ◌≤◌, ℕ, ◌+◌, ◌<◌, ◌-◌, suc, zero, arith}
+use Rattle.base.proofs.Prelude.{◌∙◌, sym, refl, ◌≡◌, ap, false, true, List, [], ◌∷◌, ◌++◌, ◌≤◌, ℕ, ◌+◌, ◌<◌, ◌-◌, suc, zero, arith}
 use Rattle.base.proofs.Prelude.{le_of_suc-le-suc, not-suc-le-zero, add-one, eqb, ltb, leb, length, get_or, drop, take, replicate, length-drop}
 use Rattle.base.proofs.Prelude.{length-append, drop_of_length-le, take-append-drop, drop-cons, length-take-le, eq-eqb, ne_eqb, lt-ltb, le-ltb, le-leb}
 use Rattle.base.proofs.Prelude.{leb-true, eqb-true, ltb-true}

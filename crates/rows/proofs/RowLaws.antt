@@ -1,7 +1,7 @@
 -- The laws of lists of entries, over any type of entry and any key.
 -- Assumes nothing.
-use Rattle.base.proofs.Prelude.{◌∙◌, sym, refl, ◌≡◌, ap, false, true, Bool, false≢true, List, [], ◌∷◌, ◌++◌, map, ⊎_elim, some, ◌≤◌, ℕ, ◌<◌, suc}
-use Rattle.base.proofs.Prelude.{zero, zero-le, suc-le-suc, arith, le_of_suc-le-suc, not-suc-le-zero, eq-or-lt_of_le, eqb, ltb, length, get_or}
+use Rattle.base.proofs.Prelude.{◌∙◌, sym, refl, ◌≡◌, ap, false, true, Bool, false≢true, List, [], ◌∷◌, map, ⊎_elim, some, ◌≤◌, ℕ, ◌<◌, suc}
+use Rattle.base.proofs.Prelude.{zero, zero-le, suc-le-suc, arith, eq-or-lt_of_le, eqb, ltb, length}
 use Rattle.base.proofs.Prelude.{length-set, set, eq-eqb, ne_eqb, lt-ltb, le-ltb, eqb-true, ltb-true, ltb-false, eqb-false}
 use Rattle.base.specs.Choice.{pick}
 use Rattle.rows.specs.Order.{rising, ascending}

@@ -61,10 +61,10 @@ module _ (test : ℕ → Bool) where
           let same : x + 4 + 4 * j ≡ x + 4 * suc j = omega arith in
           rw same at (next.before j (le_of_suc-le-suc l))
 
-  gap_by : (f x g : ℕ) → gap_by test f x ≡ At g → Gapped test x g
+  gapped-by : (f x g : ℕ) → gap_by test f x ≡ At g → Gapped test x g
   unfolding gap_by
-  gap_by zero x g e = absurd (let z : ◌≡◌ {A = ℕ} 0 1 = cc in omega arith)
-  gap_by (suc f) x g e = step (test x) (ltb (x + 4) (2 ^ 32)) refl e (gap_by f (x + 4) g)
+  gapped-by zero x g e = absurd (let z : ◌≡◌ {A = ℕ} 0 1 = cc in omega arith)
+  gapped-by (suc f) x g e = step (test x) (ltb (x + 4) (2 ^ 32)) refl e (gapped-by f (x + 4) g)
     where
       step : (s t : Bool) → test x ≡ s → choose s (λ _. choose t (λ _. gap_by test f (x + 4)) (λ _. Beyond)) (λ _. At x) ≡ At g
           → (gap_by test f (x + 4) ≡ At g → Gapped test (x + 4) g) → Gapped test x g
@@ -76,7 +76,7 @@ module _ (test : ℕ → Bool) where
 
   pub gap_at : (x g : ℕ) → gap_from test x ≡ At g → Gapped test x g
   unfolding gap_from
-  gap_at x g e = gap_by (2 ^ 32 - x) x g e
+  gap_at x g e = gapped-by (2 ^ 32 - x) x g e
 
   none-by : (f x : ℕ) → x < 2 ^ 32 → 2 ^ 32 - x ≤ f → gap_by test f x ≡ Beyond → (j : ℕ) → x + 4 * j < 2 ^ 32 → test (x + 4 * j) ≡ true
   unfolding gap_by

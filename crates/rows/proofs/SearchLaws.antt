@@ -1,6 +1,6 @@
 -- The laws of the lookups: an address's place among the rows, met from below and from above.
 -- Assumes nothing.
-use Rattle.base.proofs.Prelude.{◌∙◌, sym, refl, ◌≡◌, ap, false, true, Bool, List, [], ◌∷◌, map, ◌≤◌, ℕ, ◌+◌, ◌<◌, ◌-◌, suc, ◌*◌, zero, ◌^◌, ◌/◌}
+use Rattle.base.proofs.Prelude.{◌∙◌, sym, refl, ◌≡◌, false, true, Bool, List, [], ◌∷◌, map, ◌≤◌, ℕ, ◌+◌, ◌<◌, ◌-◌, suc, ◌*◌, zero, ◌^◌, ◌/◌}
 use Rattle.base.proofs.Prelude.{zero-le, suc-le-suc, arith, le_of_suc-le-suc, not-suc-le-zero, eqb, ltb, length, get_or, take, eq-eqb, ne_eqb, lt-ltb}
 use Rattle.base.proofs.Prelude.{le-ltb, ltb-true, ltb-false}
 use lib.Dec.{leb-suc-suc}
@@ -12,10 +12,9 @@ use Rattle.rows.specs.Rows.{rank, stands}
 use Rattle.rows.specs.Run.{gap_from}
 use Rattle.rows.specs.declared.Gap.TheVariants.{At, Beyond}
 use Rattle.rows.proofs.OrderLaws.{rising-at, rising-ascending}
-use Rattle.rows.proofs.RowLaws.{rank-within}
 use Rattle.rows.proofs.RunLaws.{Going, going_start, going_on, going-beyond, going_end}
 use Rattle.rows.specs.declared.Key.TheVariants.{Address, Nothing}
-use Rattle.rows.specs.Map.{key_of, map_in, Held, holds_at, first_key, last_key, stands-in}
+use Rattle.rows.specs.Map.{key_of, map_in, holds_at, first_key, last_key, stands-in}
 use Rattle.rows.proofs.MapLaws.{row_fits, map-length}
 
 -- the rows' addresses

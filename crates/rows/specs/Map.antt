@@ -1,7 +1,7 @@
 -- A map is rows, ascending strictly by their first number, the address. A lent slice holds it: the rows one after another, and zeros
 -- after them.
 -- Assumes nothing.
-use Rattle.std.specs.Prelude.{◌≡◌, Bool, true, false, not, List, [], ◌∷◌, ◌++◌, map, ℕ, zero, suc, ◌+◌, ◌*◌, ◌-◌, ◌≤◌, ◌<◌, ltb, leb, eqb, length, get_or, take, drop}
+use Rattle.std.specs.Prelude.{◌≡◌, Bool, true, false, not, List, [], ◌∷◌, ◌++◌, map, ℕ, zero, suc, ◌+◌, ◌*◌, ◌≤◌, ◌<◌, ltb, leb, eqb, length, get_or, take, drop}
 use Rattle.std.proofs.Math.Seq.{slice}
 use Rattle.base.specs.Choice.{pick}
 use Rattle.rows.specs.Order.{ascending, zeros}

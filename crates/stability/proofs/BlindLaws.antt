@@ -11,9 +11,9 @@ use Rattle.analysis.specs.declared.jump_table.JumpTableAnswer.{JumpTableAnswer}
 use Rattle.analysis.specs.declared.jump_table.JumpTableAnswer.TheVariants.{Next as J-Next, Found as J-Found, Refused as J-Refused}
 use Rattle.analysis.specs.declared.jump_table.TableEnd.{TableEnd}
 use Rattle.analysis.specs.declared.jump_table.TableEnd.TheVariants.{At as E-At, Nothing as E-Nothing, Refused as E-Refused}
-use Rattle.analysis.specs.IllegalCode.{illegal_code as codeMachine}
-use Rattle.analysis.specs.InlineTable.{inline_table as inlineMachine, table_of}
-use Rattle.analysis.specs.JumpTable.{jump_table as jumpMachine, table_end}
+use Rattle.analysis.specs.IllegalCode.{illegal_code as code_machine}
+use Rattle.analysis.specs.InlineTable.{inline_table as inline_machine, table_of}
+use Rattle.analysis.specs.JumpTable.{jump_table as jump_machine, table_end}
 use Rattle.arm.specs.declared.Ins.{Ins}
 use Rattle.arm.specs.Ins.{is_conditional}
 use Rattle.base.specs.declared.word.Word.{Word}
@@ -106,12 +106,12 @@ module _ (g : Given) (c d : List ℕ) (a : ℕ) where
 
     pub jump-table : Blind g c d a (jump_table i)
     unfolding jump_table
-    jump-table x t s = after-jump (jumpMachine x.machines.jump_table x.progress.address i) x t s
+    jump-table x t s = after-jump (jump_machine x.machines.jump_table x.progress.address i) x t s
 
     pub illegal-code : Blind g c d a (illegal_code i)
     unfolding illegal_code
     illegal-code x t s =
-        let state = codeMachine x.machines.illegal_code i in
+        let state = code_machine x.machines.illegal_code i in
         after-code state (with_machines (illegal_code_to state x.machines) x) t s
 
     pub branch-outside : Blind g c d a (branch_outside i)
@@ -275,7 +275,7 @@ module _ (g : Given) (c d : List ℕ) (a : ℕ) where
 
     pub inline-table : Blind g c d a (inline_table i)
     unfolding inline_table
-    inline-table x t s = after-inline (inlineMachine x.machines.inline_table false x.progress.address i) x t s
+    inline-table x t s = after-inline (inline_machine x.machines.inline_table false x.progress.address i) x t s
 
     called-as : (word : ℕ) (callee : Callee) → Blind g c d a (called_as i word callee)
     called-as word No-Call x t s = both-on x t s

@@ -48,7 +48,7 @@ module _ (c d : List ℕ) (base : ℕ) where
   unfolding last_key
   paired-last none = refl
   paired-last (more w none) = refl
-  paired-last (more w (more v k)) = paired-last (more v k)
+  paired-last (more w (more {m} x k)) = paired-last (more {m = m} x k)
 
   -- three numbers a row
   pub paired-wide : {ps qs : List (List ℕ)} → Paired ps qs → Wide pool_row ps × Wide pool_row qs

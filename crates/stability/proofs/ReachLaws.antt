@@ -88,6 +88,7 @@ module _ (o : Options) (starts c : List ℕ) (r : Record) where
   answers-reach : (ks : List Action) (x : After) → Honest x → Answers r (run_from o c starts x ks) → Reaches x.walk x.lists
   unfolding run_from
   answers-reach [] x h (here e) = ended (h.says e) (h.ends (h.says e))
+  answers-reach [] x h (later a) = elim a [ ]
   answers-reach (k ∷ ks) x h (here e) = ended (h.says e) (h.ends (h.says e))
   answers-reach (steps ∷ ks) x h (later a) =
       step-reaches x.walk x.lists (answers-reach ks (step o c starts x.walk x.lists) (step-honest x.walk x.lists h.ends) a)

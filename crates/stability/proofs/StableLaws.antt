@@ -108,6 +108,7 @@ begin-passed o start code starts n l b = rw (begins-number o start code starts b
 
 -- an answer of the first run is one of the second
 same-answers : (c d : List ℕ) (base : ℕ) (r : Record) {xs ys : List After} → SameRuns c d base xs ys → Answers r xs → Answers r ys
+same-answers c d base r done a = elim a [ ]
 same-answers c d base r (more s k) (here e) = here (sym s.answers ∙ e)
 same-answers c d base r (more s k) (later a) = later (same-answers c d base r k a)
 

@@ -64,9 +64,9 @@ module _ (g : Given) (c d : List ℕ) (longer : length c ≤ length d) (a : ℕ)
         from-return (in_conditional_block x) (is_return x.progress.address i x.progress.previous)
         (λ r. entry x.progress.previous (rw s.at at r)) x t s
 
-    as_code : (x : Context) (t : Twins g c d a) → Stays g c d a x
+    taken-as_code : (x : Context) (t : Twins g c d a) → Stays g c d a x
         → Alike g c d a (as_code (on (first g c d a t x))) (as_code (on (second g c d a t x)))
-    as_code x t s =
+    taken-as_code x t s =
         let one = jump-table g c d a i x t s in
         let two = then-alike (illegal_code i) one (illegal-code g c d a i) in
         let three = then-alike (branch_outside i) two (branch-outside g c d a i) in
@@ -90,7 +90,7 @@ module _ (g : Given) (c d : List ℕ) (longer : length c ≤ length d) (a : ℕ)
 
         step : (table : Option (List ℕ)) → inline_table_at x.progress.address x.maps.inline_tables ≡ table
             → Alike g c d a (as_code (skips_to table (first g c d a t x))) (as_code (skips_to table (second g c d a t x)))
-        step none f = as_code (behind (record { pools = rw s.at at e; tables = rw s.at at f })) x t s
+        step none f = taken-as_code (behind (record { pools = rw s.at at e; tables = rw s.at at f })) x t s
         step (some table) f = skips (ltb (table_end_at table) 0x1_0000_0000) (table_end_at table)
 
     inner-alike : Alike g c d a (handle_ins_inner i word size (first g c d a t x)) (handle_ins_inner i word size (second g c d a t x))

@@ -1,4 +1,6 @@
 // The function walk over a module's code, call by call: `begin`, then `step` until its answer is not `Going`, and `finish`.
+#![tactic(auto)]
+
 ghost use Rattle.std.specs.Prelude.{◌≡◌};
 ghost use Rattle.context.specs.Lists.{lists, zeroed};
 ghost use Rattle.stepper.specs.Stepper.{Called, is_going, refused, begin, step, finish};
@@ -10,7 +12,7 @@ use walk::into_function::new;
 use walk::{Answer, Counts, Options, Walk};
 
 // What a call answers, with the walk that it leaves.
-#[derive(Drop)]
+#[derive(Clone, Copy)]
 pub struct Answered {
     pub walk: Walk,
     pub answer: Answer,

@@ -13,8 +13,8 @@ use Rattle.analysis.specs.declared.jump_table.JumpTable.{JumpTable}
 use Rattle.analysis.specs.declared.jump_table.JumpTableAnswer.{JumpTableAnswer}
 use Rattle.analysis.specs.declared.jump_table.JumpTableAnswer.TheVariants.{Next as J-Next, Found as J-Found, Refused as J-Refused}
 use Rattle.analysis.specs.declared.jump_table.JumpTableStateArm.{JumpTableStateArm}
-use Rattle.analysis.specs.InlineTable.{inline_table as inlineMachine, table_of}
-use Rattle.analysis.specs.JumpTable.{table_end, jump_table as jumpMachine}
+use Rattle.analysis.specs.InlineTable.{inline_table as inline_machine, table_of}
+use Rattle.analysis.specs.JumpTable.{table_end, jump_table as jump_machine}
 use Rattle.base.specs.Choice.{pick}
 use Rattle.base.specs.Refusals.{list_full, beyond32_bits}
 use Rattle.rows.specs.Map.{Entering}
@@ -84,7 +84,7 @@ full-first false f c = refl
 -- ---- jump table
 
 module _ (i : Ins) (s : State) {answer : JumpTableAnswer} {machine : JumpTableStateArm} {count refusal : ℕ} {n t : State} {r : Stepped} {before after : List ℕ}
-    (is : answer ≡ jumpMachine s.machines.jump_table s.progress.address i)
+    (is : answer ≡ jump_machine s.machines.jump_table s.progress.address i)
     (ne : n ≡ counted (count_jump_tables count s.counts) s)
     (te : t ≡ machined (jump_table_to machine n.machines) n)
     (d : Does same same (λ c. unless_refused refusal (raised_to_table (table_end machine) c)) t r) where
@@ -112,7 +112,7 @@ module _ (i : Ins) (s : State) {answer : JumpTableAnswer} {machine : JumpTableSt
 -- ---- inline table
 
 module _ (i : Ins) (s : State) {answer : InlineTableAnswer} {machine : InlineTableState} {count refusal : ℕ} {n t : State} {r : Stepped} {before after : List ℕ}
-    (is : answer ≡ inlineMachine s.machines.inline_table false s.progress.address i)
+    (is : answer ≡ inline_machine s.machines.inline_table false s.progress.address i)
     (ne : n ≡ counted (count_inline_tables count s.counts) s)
     (te : t ≡ machined (inline_table_to machine n.machines) n)
     (he : r ≡ record { then = refused_or refusal On; state = t }) where

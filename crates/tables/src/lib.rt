@@ -1,4 +1,6 @@
 // The blocks of a step about data among the instructions: pools and inline tables that the walk skips, tables that it finds.
+#![tactic(auto)]
+
 ghost use Rattle.std.specs.Prelude.{◌≡◌, ◌+◌, ◌<◌, ◌^◌, ltb, leb};
 ghost use Rattle.analysis.specs.JumpTable.{table_end};
 ghost use Rattle.base.specs.Choice.{both, pick};
@@ -19,7 +21,7 @@ use rows::insert::enter;
 use rows::search::{contains, field};
 
 // The data at the walk's address: none, data that ends at an address, or data whose end leaves 32 bits.
-#[derive(Drop)]
+#[derive(Clone, Copy)]
 enum Data {
     Nothing,
     EndsAt(u32),

@@ -1,6 +1,6 @@
 -- The digits of a number, in a base up to 16 and in lower case.
 -- Assumes nothing.
-use Rattle.std.specs.Prelude.{Bool, true, false, List, [], ◌∷◌, ℕ, zero, suc, ◌+◌, ◌/◌, ◌%◌, ◌^◌, ltb}
+use Rattle.std.specs.Prelude.{List, [], ◌∷◌, ℕ, zero, suc, ◌+◌, ◌/◌, ◌%◌, ◌^◌, ltb}
 use Rattle.base.specs.Choice.{pick}
 
 -- the digit that stands for d, below 16: '0' is 48, and 'a' is 97

@@ -1,8 +1,10 @@
 // Writers of text: each puts one piece into a buffer that the caller lends, and returns the place
 // after it, so that pieces are written one after the other.
 //
-// Two pieces, one after the other, are one: that is `IsWritten-then` of `proofs/Put.antt`, which a
+// Two pieces, one after the other, are one: that is `written_then` of `proofs/Put.antt`, which a
 // caller's proof cites.
+#![tactic(auto)]
+
 ghost use Rattle.std.specs.Prelude.{◌≡◌, [], ◌∷◌, ◌+◌, ◌≤◌, ◌<◌, length};
 ghost use Rattle.text.specs.Put.{Written};
 ghost use Rattle.text.specs.Hex.{hex_digit, digits, hex};

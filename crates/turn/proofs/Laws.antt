@@ -1,6 +1,6 @@
 -- What the code of a turn comes to: the walk after it, and the lists.
 -- Assumes nothing.
-use Rattle.base.proofs.Prelude.{◌∙◌, sym, refl, ◌≡◌, ap, false, true, Bool, List, [], ◌≤◌, ℕ, ◌+◌, ◌<◌, ◌-◌, ◌^◌, arith, ltb, length, drop}
+use Rattle.base.proofs.Prelude.{◌∙◌, refl, ◌≡◌, ap, false, true, Bool, List, [], ◌≤◌, ℕ, ◌+◌, ◌<◌, ◌-◌, ◌^◌, arith, ltb, length, drop}
 use Rattle.base.proofs.Prelude.{length-drop, length-replicate, ltb-false}
 use lib.Dec.{lit<}
 use Rattle.arm.specs.Ins.{decode_of}

@@ -1,4 +1,6 @@
 // One turn of the walk's loop over five lists of rows: the word at the walk's address, handle_ins, and what that comes to.
+#![tactic(auto)]
+
 ghost use Rattle.std.specs.Prelude.{◌+◌, ◌≤◌, length};
 ghost use Rattle.context.specs.Lists.{lists, AllHeld, maps_in, given_by};
 ghost use Rattle.context.specs.Turn.{turn};

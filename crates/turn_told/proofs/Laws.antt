@@ -12,7 +12,6 @@ use Rattle.calls.specs.declared.Entry.{Entry}
 use Rattle.calls.specs.declared.Told.{Told}
 use Rattle.calls.specs.Records.{numbers_of, edited, clearing, none, Tells}
 use Rattle.calls.proofs.EditLaws.{rewritten-none, numbers-kept, map_is, cleared}
-use Rattle.context.specs.declared.Put.TheVariants.{Nothing}
 use Rattle.context.specs.declared.Handled.{Handled}
 use Rattle.context.specs.declared.Stepped.{Stepped}
 use Rattle.context.specs.declared.Then.{Then}

@@ -1,5 +1,7 @@
 // One turn of the walk's loop over the lists but that of the calls: what a step asks of the calls is told before, and what it changes in them
 // is left to do. So a host may lend its calls in another form than rows.
+#![tactic(auto)]
+
 ghost use Rattle.std.specs.Prelude.{◌≡◌, true, List, ℕ, ◌+◌, ◌≤◌, ◌<◌, ◌^◌, length};
 ghost use Rattle.calls.specs.Records.{numbers_of, edited, clearing, Tells};
 ghost use Rattle.context.specs.Blocks.{is_destination, handle_ins_inner};
@@ -29,7 +31,7 @@ use walk::{Options, Walk};
 const ARM_SIZE: u32 = 4;
 
 // The walk after a turn, and the change of the calls that is left to do.
-#[derive(Drop)]
+#[derive(Clone, Copy)]
 pub struct Looked {
     pub walk: Walk,
     pub edit: Edit,

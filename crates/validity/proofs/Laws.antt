@@ -3,8 +3,8 @@
 use Rattle.base.proofs.Prelude.{sym, refl, ◌≡◌, false, true, Bool, List, [], ◌≤◌, ℕ, ◌+◌, ◌<◌, ◌%◌, arith, add-one, eqb, leb, length, get_or, drop}
 use Rattle.base.proofs.Prelude.{drop_of_length-le, drop-cons, eq-eqb, ne_eqb, le-leb, lt-leb, leb-true, eqb-true, leb-false}
 use lib.Dec.{lit<}
-use Rattle.base.specs.Choice.{pick, both}
-use Rattle.context.specs.Context.{label_row, pool_row, table_row, call_row}
+use Rattle.base.specs.Choice.{pick}
+use Rattle.context.specs.Context.{label_row, pool_row, table_row}
 use Rattle.context.specs.Lists.{Lists, AllHeld, maps_in}
 use Rattle.context.specs.Turn.{key_or0}
 use Rattle.rows.specs.Map.{key_of, stands-in, last_key, Held, in_order}

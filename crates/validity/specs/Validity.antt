@@ -1,9 +1,9 @@
 -- Document 01's refusals 1 to 4: the number of the first check that fails, or 0.
 -- Assumes nothing.
-use Rattle.std.specs.Prelude.{Bool, true, false, List, [], ◌∷◌, ℕ, ◌+◌, ◌%◌, eqb, ltb, leb, length}
+use Rattle.std.specs.Prelude.{Bool, true, List, [], ◌∷◌, ℕ, ◌+◌, ◌%◌, eqb, leb, length}
 use Rattle.base.specs.Choice.{pick, both, either}
 use Rattle.base.specs.Refusals.{bad_window, bad_start, unaligned_start, bad_lists}
-use Rattle.context.specs.Context.{Maps, label_row, pool_row, table_row, call_row}
+use Rattle.context.specs.Context.{label_row, pool_row, table_row, call_row}
 use Rattle.context.specs.Lists.{Lists, maps_in}
 use Rattle.context.specs.Turn.{key_or0}
 use Rattle.rows.specs.Map.{key_of, stands-in, last_key, in_order}

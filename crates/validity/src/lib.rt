@@ -1,4 +1,6 @@
 // Document 01's refusals 1 to 4: whether what a host hands in is valid. Each function gives the number of the first check that fails, or 0.
+#![tactic(auto)]
+
 ghost use Rattle.std.specs.Prelude.{◌≡◌, length};
 ghost use Rattle.context.specs.Context.{pool_row};
 ghost use Rattle.context.specs.Lists.{lists};

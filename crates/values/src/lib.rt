@@ -1,4 +1,6 @@
 // The blocks of a step about registers and the values that they hold: illegal code, pool words loaded and called, registers used undefined.
+#![tactic(auto)]
+
 ghost use Rattle.std.specs.Prelude.{◌≡◌};
 ghost use Rattle.rows.specs.Map.{Held, map_in};
 ghost use Rattle.context.specs.Context.{pool_row};

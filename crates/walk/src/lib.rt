@@ -2,6 +2,8 @@
 //
 // An address that may be missing is 0 where it is: no address of a program is 0, and the source's `max` and `<` on options then are those
 // of numbers.
+#![tactic(auto)]
+
 pub mod checking;
 pub mod into_function;
 
@@ -12,14 +14,14 @@ use analysis::jump_table::JumpTableStateArm;
 use predicates::Previous;
 use registers::Registers;
 
-#[derive(Drop)]
+#[derive(Clone, Copy)]
 pub enum KnownEnd {
     Nothing,
     At(u32),
 }
 
 // The host's choices for a walk.
-#[derive(Drop)]
+#[derive(Clone, Copy)]
 pub struct Options {
     pub base: u32,
     pub module_start: u32,
@@ -29,7 +31,7 @@ pub struct Options {
 }
 
 // How far a walk has come.
-#[derive(Drop)]
+#[derive(Clone, Copy)]
 pub struct Progress {
     pub start: u32,
     pub address: u32,
@@ -40,7 +42,7 @@ pub struct Progress {
     pub previous: Previous,
 }
 
-#[derive(Drop)]
+#[derive(Clone, Copy)]
 pub struct Machines {
     pub jump_table: JumpTableStateArm,
     pub function_branch: FunctionBranchState,
@@ -49,7 +51,7 @@ pub struct Machines {
 }
 
 // The entries of each lent list.
-#[derive(Drop)]
+#[derive(Clone, Copy)]
 pub struct Counts {
     pub labels: usize,
     pub pools: usize,
@@ -58,7 +60,7 @@ pub struct Counts {
     pub calls: usize,
 }
 
-#[derive(Drop)]
+#[derive(Clone, Copy)]
 pub struct Record {
     pub start: u32,
     pub end: u32,
@@ -67,7 +69,7 @@ pub struct Record {
 }
 
 // What a call answers. A refusal has its number in document 01; `register` is the undefined one at 11, and 0 elsewhere.
-#[derive(Drop)]
+#[derive(Clone, Copy)]
 pub enum Answer {
     Going,
     Accepted(Record),
@@ -79,7 +81,7 @@ pub enum Answer {
 }
 
 // A walk between two calls. `result` is `Going` before its end.
-#[derive(Drop)]
+#[derive(Clone, Copy)]
 pub struct Walk {
     pub progress: Progress,
     pub machines: Machines,

@@ -3,24 +3,25 @@ ghost use Rattle.std.specs.Prelude.{◌≤◌};
 
 use crate::listing;
 use crate::request::{TURN_BYTES, number};
+use std::io::{self, Stdout};
 use walk::{Counts, Progress, Walk};
 
 // The part of the state that gets a value; 0 is none.
-#[derive(Drop)]
+#[derive(Clone, Copy)]
 pub struct Part {
     pub part: u32,
     pub value: u32,
 }
 
 // The place of a list that gets a value; list 0 is none.
-#[derive(Drop)]
+#[derive(Clone, Copy)]
 pub struct Place {
     pub list: u32,
     pub at: u32,
     pub value: u32,
 }
 
-#[derive(Drop)]
+#[derive(Clone, Copy)]
 pub struct Turn {
     pub is_finish: bool,
     pub one: Part,
@@ -177,11 +178,11 @@ fn with_part(given: Walk, change: Part) -> Walk {
 }
 
 // The state that the step is handed. A finish is written first.
-pub fn prepared(w: Walk, turn: Turn) -> Walk {
+pub fn prepared(output: &mut Stdout, w: Walk, turn: Turn) -> io::Result<Walk> {
     if turn.is_finish {
-        listing::put_finish(stepper::finish(w));
+        listing::put_finish(output, stepper::finish(w))?;
     }
     let one = turn.one;
     let other = turn.other;
-    with_part(with_part(w, one), other)
+    Ok(with_part(with_part(w, one), other))
 }

@@ -2,11 +2,12 @@
 ghost use Rattle.std.specs.Prelude.{◌≤◌, length};
 
 use context::{CALL_ROW, LABEL_ROW, POOL_ROW, TABLE_ROW};
+use std::io::{self, Stdout, Write};
 use stepper::Answered;
 use walk::{Answer, Counts, Record};
 
 // An answer as numbers, so that two can be compared.
-#[derive(Drop)]
+#[derive(Clone, Copy)]
 struct Numbers {
     kind: u32,
     a: u32,
@@ -63,38 +64,37 @@ fn is_repeated(said: Answer, answer: Answer) -> bool {
     is_same(said, answer)
 }
 
-fn put_label(address: u32) {
+fn put_label(output: &mut Stdout, address: u32) -> io::Result<()> {
     let mut line = *b"label 00000000\n";
     text::put_hex(&mut line, 6, 8, address);
-    io::write_all(1, &line);
+    output.write_all(&line)
 }
 
-fn put_pool(address: u32, value: u32, mark: u32) {
+fn put_pool(output: &mut Stdout, address: u32, value: u32, mark: u32) -> io::Result<()> {
     if mark == 1 {
         let mut line = *b"pool 00000000 00000000 call\n";
         text::put_hex(&mut line, 5, 8, address);
         text::put_hex(&mut line, 14, 8, value);
-        io::write_all(1, &line);
-        return;
+        return output.write_all(&line);
     }
     let mut line = *b"pool 00000000 00000000 other\n";
     text::put_hex(&mut line, 5, 8, address);
     text::put_hex(&mut line, 14, 8, value);
-    io::write_all(1, &line);
+    output.write_all(&line)
 }
 
-fn put_jump(address: u32, size: u32) {
+fn put_jump(output: &mut Stdout, address: u32, size: u32) -> io::Result<()> {
     let mut line = *b"jump 00000000 00000000\n";
     text::put_hex(&mut line, 5, 8, address);
     text::put_hex(&mut line, 14, 8, size);
-    io::write_all(1, &line);
+    output.write_all(&line)
 }
 
-fn put_inline(address: u32, size: u32) {
+fn put_inline(output: &mut Stdout, address: u32, size: u32) -> io::Result<()> {
     let mut line = *b"inline 00000000 00000000\n";
     text::put_hex(&mut line, 7, 8, address);
     text::put_hex(&mut line, 16, 8, size);
-    io::write_all(1, &line);
+    output.write_all(&line)
 }
 
 fn put_call_numbers(line: &mut [u8], address: u32, word: u32, destination: u32)
@@ -105,26 +105,31 @@ fn put_call_numbers(line: &mut [u8], address: u32, word: u32, destination: u32)
     text::put_hex(line, 23, 8, destination);
 }
 
-fn put_call(address: u32, word: u32, destination: u32, mode: u32) {
+fn put_call(
+    output: &mut Stdout,
+    address: u32,
+    word: u32,
+    destination: u32,
+    mode: u32,
+) -> io::Result<()> {
     if mode == 0 {
         let mut line = *b"call 00000000 00000000 00000000 arm\n";
         put_call_numbers(&mut line, address, word, destination);
-        io::write_all(1, &line);
-        return;
+        return output.write_all(&line);
     }
     let mut line = *b"call 00000000 00000000 00000000 thumb\n";
     put_call_numbers(&mut line, address, word, destination);
-    io::write_all(1, &line);
+    output.write_all(&line)
 }
 
 // A row of list 1 to 5. A list of shorter rows leaves the last numbers alone.
-fn put_row(list: u32, a: u32, b: u32, c: u32, d: u32) {
+fn put_row(output: &mut Stdout, list: u32, a: u32, b: u32, c: u32, d: u32) -> io::Result<()> {
     match list {
-        1 => put_label(a),
-        2 => put_pool(a, b, c),
-        3 => put_jump(a, b),
-        4 => put_inline(a, b),
-        _ => put_call(a, b, c, d),
+        1 => put_label(output, a),
+        2 => put_pool(output, a, b, c),
+        3 => put_jump(output, a, b),
+        4 => put_inline(output, a, b),
+        _ => put_call(output, a, b, c, d),
     }
 }
 
@@ -136,122 +141,125 @@ fn value_at(rows: &[u32], i: usize) -> u32 {
 }
 
 // The rows of a list, but for those that a made-up count has past its places; and where they end.
-fn put_rows(list: u32, rows: &[u32], stride: usize, count: usize) -> usize
+fn put_rows(
+    output: &mut Stdout,
+    list: u32,
+    rows: &[u32],
+    stride: usize,
+    count: usize,
+) -> io::Result<usize>
     requires { stride ≤ 4 }
 {
     let mut at = 0;
-    let mut i = 0;
-    while i < count {
+    for _ in 0..count {
         if rows.len() < at + stride {
-            return at;
+            break;
         }
         put_row(
+            output,
             list,
             value_at(rows, at),
             value_at(rows, at + 1),
             value_at(rows, at + 2),
             value_at(rows, at + 3),
-        );
+        )?;
         at += stride;
-        i += 1;
     }
-    at
+    Ok(at)
 }
 
-fn put_place(list: u32, i: usize, value: u32) {
+fn put_place(output: &mut Stdout, list: u32, i: usize, value: u32) -> io::Result<()> {
     let mut line = *b"place 00000000 00000000 00000000\n";
     text::put_hex(&mut line, 6, 8, list);
     text::put_hex(&mut line, 15, 8, (i % 0x1_0000_0000) as u32);
     text::put_hex(&mut line, 24, 8, value);
-    io::write_all(1, &line);
+    output.write_all(&line)
 }
 
 // The first place after the rows that does not hold zero: a walk leaves none.
-fn put_rest(list: u32, rows: &[u32], end: usize) {
-    let mut i = end;
-    while i < rows.len() {
+fn put_rest(output: &mut Stdout, list: u32, rows: &[u32], end: usize) -> io::Result<()> {
+    for i in end..rows.len() {
         let value = rows[i];
         if value != 0 {
-            put_place(list, i, value);
-            return;
+            return put_place(output, list, i, value);
         }
-        i += 1;
     }
+    Ok(())
 }
 
 fn put_lists(
+    output: &mut Stdout,
     n: Counts,
     labels: &[u32],
     pools: &[u32],
     jump_tables: &[u32],
     inline_tables: &[u32],
     calls: &[u32],
-) {
-    let a = put_rows(1, labels, LABEL_ROW, n.labels);
-    let b = put_rows(2, pools, POOL_ROW, n.pools);
-    let c = put_rows(3, jump_tables, TABLE_ROW, n.jump_tables);
-    let d = put_rows(4, inline_tables, TABLE_ROW, n.inline_tables);
-    let e = put_rows(5, calls, CALL_ROW, n.calls);
-    put_rest(1, labels, a);
-    put_rest(2, pools, b);
-    put_rest(3, jump_tables, c);
-    put_rest(4, inline_tables, d);
-    put_rest(5, calls, e);
+) -> io::Result<()> {
+    let a = put_rows(output, 1, labels, LABEL_ROW, n.labels)?;
+    let b = put_rows(output, 2, pools, POOL_ROW, n.pools)?;
+    let c = put_rows(output, 3, jump_tables, TABLE_ROW, n.jump_tables)?;
+    let d = put_rows(output, 4, inline_tables, TABLE_ROW, n.inline_tables)?;
+    let e = put_rows(output, 5, calls, CALL_ROW, n.calls)?;
+    put_rest(output, 1, labels, a)?;
+    put_rest(output, 2, pools, b)?;
+    put_rest(output, 3, jump_tables, c)?;
+    put_rest(output, 4, inline_tables, d)?;
+    put_rest(output, 5, calls, e)
 }
 
-fn put_record(record: Record) {
+fn put_record(output: &mut Stdout, record: Record) -> io::Result<()> {
     let mut line = *b"function 00000000 00000000 00000000 00000000\n";
     text::put_hex(&mut line, 9, 8, record.start);
     text::put_hex(&mut line, 18, 8, record.end);
     text::put_hex(&mut line, 27, 8, record.first_instruction);
     text::put_hex(&mut line, 36, 8, record.last_instruction_end);
-    io::write_all(1, &line);
+    output.write_all(&line)
 }
 
-fn put_refused(number: u8, address: u32) {
+fn put_refused(output: &mut Stdout, number: u8, address: u32) -> io::Result<()> {
     if number < 10 {
         let mut line = *b"refused 0 00000000\n";
         line[8] = b'0' + number;
         text::put_hex(&mut line, 10, 8, address);
-        io::write_all(1, &line);
-        return;
+        return output.write_all(&line);
     }
     let mut line = *b"refused 00 00000000\n";
     line[8] = b'0' + number / 10;
     line[9] = b'0' + number % 10;
     text::put_hex(&mut line, 11, 8, address);
-    io::write_all(1, &line);
+    output.write_all(&line)
 }
 
-fn put_register(register: u8) {
+fn put_register(output: &mut Stdout, register: u8) -> io::Result<()> {
     let mut line = *b"register 00\n";
     line[9] = b'0' + register / 10;
     line[10] = b'0' + register % 10;
-    io::write_all(1, &line);
+    output.write_all(&line)
 }
 
 // `is_full`: with the register of an 11, which the stored answers of the Rust do not have.
-fn put_answer(answer: Answer, is_full: bool) {
+fn put_answer(output: &mut Stdout, answer: Answer, is_full: bool) -> io::Result<()> {
     match answer {
-        Answer::Going => {
-            io::write_all(1, b"going\n");
-        }
-        Answer::Accepted(record) => put_record(record),
+        Answer::Going => output.write_all(b"going\n"),
+        Answer::Accepted(record) => put_record(output, record),
         Answer::Refused {
             number,
             address,
             register,
         } => {
-            put_refused(number, address);
+            put_refused(output, number, address)?;
             if is_full && number == 11 {
-                put_register(register);
+                put_register(output, register)?;
             }
+            Ok(())
         }
     }
 }
 
 // A begin is written where it is refused.
 pub fn put_begin(
+    output: &mut Stdout,
     is_full: bool,
     begun: Answered,
     labels: &[u32],
@@ -259,25 +267,26 @@ pub fn put_begin(
     jump_tables: &[u32],
     inline_tables: &[u32],
     calls: &[u32],
-) {
+) -> io::Result<()> {
     let answer = begun.answer;
     if is_going(answer) {
-        return;
+        return Ok(());
     }
-    put_answer(answer, is_full);
+    put_answer(output, answer, is_full)?;
     let n = begun.walk.counts;
-    put_lists(n, labels, pools, jump_tables, inline_tables, calls);
+    put_lists(output, n, labels, pools, jump_tables, inline_tables, calls)
 }
 
-fn put_move(before: u32, after: u32) {
+fn put_move(output: &mut Stdout, before: u32, after: u32) -> io::Result<()> {
     let mut line = *b"step 00000000 00000000\n";
     text::put_hex(&mut line, 5, 8, before);
     text::put_hex(&mut line, 14, 8, after);
-    io::write_all(1, &line);
+    output.write_all(&line)
 }
 
 // A step from the address `before`, unless it repeats the end that `said` is.
 pub fn put_step(
+    output: &mut Stdout,
     is_full: bool,
     said: Answer,
     before: u32,
@@ -287,29 +296,29 @@ pub fn put_step(
     jump_tables: &[u32],
     inline_tables: &[u32],
     calls: &[u32],
-) {
+) -> io::Result<()> {
     let answer = next.answer;
     if is_repeated(said, answer) {
-        return;
+        return Ok(());
     }
     if is_going(answer) {
-        put_move(before, next.walk.progress.address);
+        put_move(output, before, next.walk.progress.address)?;
     } else {
-        put_answer(answer, is_full);
+        put_answer(output, answer, is_full)?;
     }
     let n = next.walk.counts;
-    put_lists(n, labels, pools, jump_tables, inline_tables, calls);
+    put_lists(output, n, labels, pools, jump_tables, inline_tables, calls)
 }
 
-pub fn put_finish(answer: Answer) {
-    io::write_all(1, b"finish ");
-    put_answer(answer, true);
+pub fn put_finish(output: &mut Stdout, answer: Answer) -> io::Result<()> {
+    output.write_all(b"finish ")?;
+    put_answer(output, answer, true)
 }
 
 // The finish after the end.
-pub fn put_end(answer: Answer, said: Answer) {
+pub fn put_end(output: &mut Stdout, answer: Answer, said: Answer) -> io::Result<()> {
     if is_same(said, answer) {
-        return;
+        return Ok(());
     }
-    put_finish(answer);
+    put_finish(output, answer)
 }

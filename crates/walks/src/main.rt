@@ -9,6 +9,8 @@
 //
 // A run is a begin; the planned turns; steps until one does not go on; one step more; and a finish. These last two are written only where
 // they do not give the end's answer again, so that what is written for versions 1 and 2 is the Rust's own listing.
+#![tactic(auto)]
+
 mod changes;
 mod listing;
 mod request;
@@ -18,6 +20,7 @@ ghost use Rattle.std.specs.Prelude.{◌≤◌, ◌<◌};
 use changes::Turn;
 use listing::is_going;
 use request::Request;
+use std::io::{self, Stdin, Stdout, Write};
 use stepper::Answered;
 use walk::{Answer, Walk};
 
@@ -28,6 +31,7 @@ const MOST_REQUESTS: usize = 100_000_000;
 
 // A begin, written where it is refused.
 fn begin(
+    output: &mut Stdout,
     r: Request,
     code: &[u8],
     starts: &[u32],
@@ -36,7 +40,7 @@ fn begin(
     jump_tables: &mut [u32],
     inline_tables: &mut [u32],
     calls: &mut [u32],
-) -> Walk {
+) -> io::Result<Walk> {
     let o = r.options;
     let begun = stepper::begin(
         o,
@@ -51,6 +55,7 @@ fn begin(
         request::some_counts(),
     );
     listing::put_begin(
+        output,
         r.is_full,
         begun,
         labels,
@@ -58,12 +63,13 @@ fn begin(
         jump_tables,
         inline_tables,
         calls,
-    );
-    begun.walk
+    )?;
+    Ok(begun.walk)
 }
 
 // A step, written unless it repeats the end that `said` is.
 fn take_step(
+    output: &mut Stdout,
     r: Request,
     said: Answer,
     w: Walk,
@@ -74,7 +80,7 @@ fn take_step(
     jump_tables: &mut [u32],
     inline_tables: &mut [u32],
     calls: &mut [u32],
-) -> Answered {
+) -> io::Result<Answered> {
     let o = r.options;
     let next = stepper::step(
         o,
@@ -88,6 +94,7 @@ fn take_step(
         calls,
     );
     listing::put_step(
+        output,
         r.is_full,
         said,
         w.progress.address,
@@ -97,11 +104,12 @@ fn take_step(
         jump_tables,
         inline_tables,
         calls,
-    );
-    next
+    )?;
+    Ok(next)
 }
 
 fn take_turn(
+    output: &mut Stdout,
     r: Request,
     turn: Turn,
     said: Answer,
@@ -113,12 +121,14 @@ fn take_turn(
     jump_tables: &mut [u32],
     inline_tables: &mut [u32],
     calls: &mut [u32],
-) -> Answered {
+) -> io::Result<Answered> {
     changes::set_places(turn, labels, pools, jump_tables, inline_tables, calls);
+    let ready = changes::prepared(output, w, turn)?;
     take_step(
+        output,
         r,
         said,
-        changes::prepared(w, turn),
+        ready,
         code,
         starts,
         labels,
@@ -153,6 +163,7 @@ fn come_to(planned: usize, turn: usize, said: Answer, answer: Answer) -> Answer 
 }
 
 fn run(
+    output: &mut Stdout,
     body: &[u8],
     r: Request,
     code: &[u8],
@@ -162,10 +173,11 @@ fn run(
     jump_tables: &mut [u32],
     inline_tables: &mut [u32],
     calls: &mut [u32],
-)
+) -> io::Result<()>
     requires { (r.script ≤ 0x1000) × (r.turns ≤ 64) }
 {
     let mut w = begin(
+        output,
         r,
         code,
         starts,
@@ -174,11 +186,12 @@ fn run(
         jump_tables,
         inline_tables,
         calls,
-    );
+    )?;
     let mut said = Answer::Going;
     let mut turn = 0;
     while turn < TURNS {
         let next = take_turn(
+            output,
             r,
             changes::turn_at(body, r.script, r.turns, turn),
             said,
@@ -190,32 +203,39 @@ fn run(
             jump_tables,
             inline_tables,
             calls,
-        );
+        )?;
         w = next.walk;
         let after = following(r.turns, turn, said);
         let answer = next.answer;
         said = come_to(r.turns, turn, said, answer);
         turn = after;
     }
-    listing::put_end(stepper::finish(w), said);
+    listing::put_end(output, stepper::finish(w), said)
 }
 
-// The lists hold anything at first, and are lent as far as the request says.
-fn lend(body: &[u8], r: Request, code: &[u8], starts: &[u32])
+// The lists are lent as far as the request says.
+fn run_lent(
+    output: &mut Stdout,
+    body: &[u8],
+    r: Request,
+    code: &[u8],
+    starts: &[u32],
+    labels: &mut [u32],
+    pools: &mut [u32],
+    jump_tables: &mut [u32],
+    inline_tables: &mut [u32],
+    calls: &mut [u32],
+) -> io::Result<()>
     requires { (r.script ≤ 0x1000) × (r.turns ≤ 64) }
 {
     let lengths = r.lengths;
-    let mut labels = [7u32; 1024];
-    let mut pools = [7u32; 3072];
-    let mut jump_tables = [7u32; 128];
-    let mut inline_tables = [7u32; 128];
-    let mut calls = [7u32; 4096];
-    let a = request::within(lengths.labels, &labels);
-    let b = request::within(lengths.pools, &pools);
-    let c = request::within(lengths.jump_tables, &jump_tables);
-    let d = request::within(lengths.inline_tables, &inline_tables);
-    let e = request::within(lengths.calls, &calls);
+    let a = request::within(lengths.labels, labels);
+    let b = request::within(lengths.pools, pools);
+    let c = request::within(lengths.jump_tables, jump_tables);
+    let d = request::within(lengths.inline_tables, inline_tables);
+    let e = request::within(lengths.calls, calls);
     run(
+        output,
         body,
         r,
         code,
@@ -225,45 +245,90 @@ fn lend(body: &[u8], r: Request, code: &[u8], starts: &[u32])
         &mut jump_tables[..c],
         &mut inline_tables[..d],
         &mut calls[..e],
-    );
+    )
 }
 
-fn serve(body: &[u8]) {
+// The lists hold anything at first.
+fn lend(output: &mut Stdout, body: &[u8], r: Request, code: &[u8], starts: &[u32]) -> io::Result<()>
+    requires { (r.script ≤ 0x1000) × (r.turns ≤ 64) }
+{
+    let mut labels = [7u32; 1024];
+    let mut pools = [7u32; 3072];
+    let mut jump_tables = [7u32; 128];
+    let mut inline_tables = [7u32; 128];
+    let mut calls = [7u32; 4096];
+    run_lent(
+        output,
+        body,
+        r,
+        code,
+        starts,
+        &mut labels[..],
+        &mut pools[..],
+        &mut jump_tables[..],
+        &mut inline_tables[..],
+        &mut calls[..],
+    )
+}
+
+fn serve(output: &mut Stdout, body: &[u8]) -> io::Result<()> {
     let r = request::read(body);
     let starts = request::read_starts(body, r.starts);
     let n = request::within(r.starts, &starts);
     let from = request::past(r.code, body);
-    lend(body, r, &body[from..], &starts[..n]);
+    lend(output, body, r, &body[from..], &starts[..n])
 }
 
-fn read_body(body: &mut [u8], length: usize) {
+fn read_body(from: &mut Stdin, body: &mut [u8], length: usize) -> io::Result<()> {
     let n = request::past(length, body);
-    io::read_full(0, &mut body[..n]);
+    streams::read_full(from, &mut body[..n])?;
+    Ok(())
+}
+
+fn serve_into(
+    from: &mut Stdin,
+    output: &mut Stdout,
+    body: &mut [u8],
+    length: usize,
+    is_first: bool,
+) -> io::Result<()> {
+    read_body(from, body, length)?;
+    let n = request::past(length, body);
+    if !is_first {
+        output.write_all(b"\n")?;
+    }
+    serve(output, &body[..n])
+}
+
+// The buffer is lent by a function that does nothing else, since a proof about so long an array is slow.
+fn serve_body(
+    from: &mut Stdin,
+    output: &mut Stdout,
+    length: usize,
+    is_first: bool,
+) -> io::Result<()> {
+    let mut body = [0u8; 65536];
+    serve_into(from, output, &mut body[..], length, is_first)
 }
 
 // False at the input's end.
-fn serve_next(is_first: bool) -> bool {
+fn serve_next(from: &mut Stdin, output: &mut Stdout, is_first: bool) -> io::Result<bool> {
     let mut head = [0u8; 4];
-    if io::read_full(0, &mut head) < 4 {
-        return false;
+    if streams::read_full(from, &mut head)? < 4 {
+        return Ok(false);
     }
     let length = request::number(&head, 0) as usize;
-    let mut body = [0u8; 65536];
-    read_body(&mut body, length);
-    let n = request::past(length, &body);
-    if !is_first {
-        io::write_all(1, b"\n");
-    }
-    serve(&body[..n]);
-    true
+    serve_body(from, output, length, is_first)?;
+    Ok(true)
 }
 
-fn main() {
-    let mut turn = 0;
-    while turn < MOST_REQUESTS {
-        if !serve_next(turn == 0) {
-            return;
+fn main(rt: HostRuntime) -> io::Result<()> {
+    let mut from = rt.stdin();
+    let mut output = rt.stdout();
+    for turn in 0..MOST_REQUESTS {
+        if !serve_next(&mut from, &mut output, turn == 0)? {
+            break;
         }
-        turn += 1;
     }
+    Ok(())
 }

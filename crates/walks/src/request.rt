@@ -12,7 +12,7 @@ pub const TURN_BYTES: usize = 44;
 
 // `starts` existing starts, `lengths` of the five lists, `turns` that begin at the byte `script`, and the code from the byte `code` on.
 // `is_full` is a request that the Rust cannot be asked.
-#[derive(Drop)]
+#[derive(Clone, Copy)]
 pub struct Request {
     pub is_full: bool,
     pub options: Options,
@@ -169,10 +169,8 @@ pub fn read_starts(body: &[u8], count: usize) -> [u32; 64]
     requires { count ≤ 64 }
 {
     let mut starts = [0u32; 64];
-    let mut i = 0;
-    while i < count {
+    for i in 0..count {
         starts[i] = number(body, 26 + 4 * i);
-        i += 1;
     }
     starts
 }

@@ -1,5 +1,7 @@
 // The whole walk in one call: what begin, steps until the end and finish give. What the checks ask for holds again after each step, so they are
 // made once.
+#![tactic(auto)]
+
 ghost use Rattle.std.specs.Prelude.{suc, ◌+◌, ◌≤◌, length};
 ghost use Rattle.context.specs.Lists.{lists, AllHeld, maps_in, given_by};
 ghost use Rattle.invariants.specs.Turns.{turns_from};

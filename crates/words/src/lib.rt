@@ -2,6 +2,8 @@
 //
 // `decode_text` says what each word is, with its condition, the registers that it reads and writes
 // and whether it sets the condition flags; `class_text` says only which class it has.
+#![tactic(auto)]
+
 ghost use Rattle.std.specs.Prelude.{◌≡◌, ◌+◌, ◌*◌, ◌/◌, ◌≤◌, ◌<◌, length};
 ghost use Rattle.text.specs.Hex.{hex};
 ghost use Rattle.text.specs.Put.{Written};
@@ -12,7 +14,7 @@ ghost use Rattle.words.specs.Answer.{Answered, refusal, text_as, text_of, class_
 use classes::Class;
 
 // What a text's writer answers: the text's length, or that the buffer is too short.
-#[derive(Drop)]
+#[derive(Clone, Copy)]
 pub enum Answer {
     Text(usize),
     NoRoom,

@@ -1,0 +1,26 @@
+-- `control0` meets its contract: each arm by one computed test over its region.
+use native.Mathlib.Omega.{arith}
+use mathlib.Core.Path.{sym}
+use Rattle.classes.specs.declared.Class.TheVariants.{Illegal, Mrs, Qadd, Smlaxy}
+use Rattle.encodings.proofs.Sweep.{region, passes, lows}
+use Rattle.encodings.proofs.encoding.control0.Goals as goal
+
+pub returns-in-0 : goal.returns-in-0
+unfolding passes
+returns-in-0 c odd h = sym (region 0 16 1 (lows 0 0) Mrs tt 16 odd _ (omega arith))
+
+pub returns-in-5 : goal.returns-in-5
+unfolding passes
+returns-in-5 c odd h = sym (region 0 16 1 (lows 5 5) Qadd tt 16 odd _ (omega arith))
+
+pub returns-in-1-to-4 : goal.returns-in-1-to-4
+unfolding passes
+returns-in-1-to-4 c odd h = sym (region 0 16 1 (lows 1 4) Illegal tt 16 odd _ (omega arith))
+
+pub returns-in-6-to-7 : goal.returns-in-6-to-7
+unfolding passes
+returns-in-6-to-7 c odd h = sym (region 0 16 1 (lows 6 7) Illegal tt 16 odd _ (omega arith))
+
+pub returns-in_default : goal.returns-in_default
+unfolding passes
+returns-in_default c odd h = sym (region 0 16 1 (lows 8 15) Smlaxy tt 16 odd _ (omega arith))

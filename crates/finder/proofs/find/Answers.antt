@@ -1,0 +1,18 @@
+-- `find` meets its contract: by which of the two a parsed input is.
+use Rattle.base.proofs.Prelude.{◌∙◌, sym}
+use borrow.Author.Rules.{part_to_end}
+use Rattle.request.proofs.RequestLaws.{asked-length}
+use Rattle.finder.proofs.FinderLaws.{asked-finds, refused-finds}
+use Rattle.finder.proofs.find.Goals as goal
+
+pub slice_bounds-walk_whole-count : goal.slice_bounds-walk_whole-count
+slice_bounds-walk_whole-count c = asked-length _ _ (sym c.parse.ensures ∙ c.in-Asked.is)
+
+pub slice_bounds-walk_whole-start : goal.slice_bounds-walk_whole-start
+slice_bounds-walk_whole-start c = asked-length _ _ (sym c.parse.ensures ∙ c.in-Asked.is)
+
+pub returns-in-Asked : goal.returns-in-Asked
+returns-in-Asked c = asked-finds _ _ _ _ _ (sym c.parse.ensures ∙ c.in-Asked.is) (rw part_to_end at c.walk_whole.ensures)
+
+pub returns-in-Refused : goal.returns-in-Refused
+returns-in-Refused c = refused-finds _ _ _ (sym c.parse.ensures ∙ c.in-Refused.is) c.no_counts.ensures

@@ -1,0 +1,21 @@
+-- `zero_amount` meets its contract, kind by kind.
+use mathlib.Core.Path.{◌≡◌}
+use native.Mathlib.Omega.{arith}
+use Rattle.modes.specs.Operands.{zero_amount_of}
+use Rattle.modes.proofs.operands.zero_amount.Goals as goal
+
+pub returns-in-0 : goal.returns-in-0
+unfolding zero_amount_of
+returns-in-0 c = rw c.in-0.is
+
+pub returns-in-1 : goal.returns-in-1
+unfolding zero_amount_of
+returns-in-1 c = rw c.in-1.is
+
+pub returns-in-2 : goal.returns-in-2
+unfolding zero_amount_of
+returns-in-2 c = rw c.in-2.is
+
+pub returns-in_default : goal.returns-in_default
+unfolding zero_amount_of
+returns-in_default c = let e : c.args.kind ≡ 3 = omega arith in rw e
