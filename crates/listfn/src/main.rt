@@ -2,12 +2,36 @@
 #![tactic(auto)]
 
 use finder::output::write_listing;
-use std::io;
+use std::io::{self, Stdin, Stdout};
 
+fn list(
+    from: &mut Stdin,
+    output: &mut Stdout,
+    input: &mut [u8; 16411],
+    labels: &mut [u32; 1024],
+    pools: &mut [u32; 3 * 1024],
+    jump_tables: &mut [u32; 2 * 64],
+    inline_tables: &mut [u32; 2 * 64],
+    calls: &mut [u32; 4 * 1024],
+    out: &mut [u8; 128045],
+) -> io::Result<()> {
+    let n = streams::read_full(from, &mut input[..])?;
+    write_listing(
+        output,
+        &input[..n],
+        &mut labels[..],
+        &mut pools[..],
+        &mut jump_tables[..],
+        &mut inline_tables[..],
+        &mut calls[..],
+        &mut out[..],
+    )
+}
+
+// It holds and lends the arrays and does nothing else, since the checker is slow where a function holds so long ones and has a goal.
 fn main(rt: HostRuntime) -> io::Result<()> {
     // One byte more than is taken, so that a longer input is seen as too long.
-    let mut input = vec![in rt.alloc(); 0u8; 16411]?;
-    let n = streams::read_full(&mut rt.stdin(), &mut input)?;
+    let mut input = [0u8; 16411];
     // Rows one after another: a pool has three numbers, a table two, a call four.
     let mut labels = [0u32; 1024];
     let mut pools = [0u32; 3 * 1024];
@@ -15,15 +39,16 @@ fn main(rt: HostRuntime) -> io::Result<()> {
     let mut inline_tables = [0u32; 2 * 64];
     let mut calls = [0u32; 4 * 1024];
     // A first line of 45 bytes, and 40 for each entry.
-    let mut out = vec![in rt.alloc(); 0u8; 128045]?;
-    write_listing(
+    let mut out = [0u8; 128045];
+    list(
+        &mut rt.stdin(),
         &mut rt.stdout(),
-        &input[..n],
-        &mut labels[..],
-        &mut pools[..],
-        &mut jump_tables[..],
-        &mut inline_tables[..],
-        &mut calls[..],
+        &mut input,
+        &mut labels,
+        &mut pools,
+        &mut jump_tables,
+        &mut inline_tables,
+        &mut calls,
         &mut out,
     )
 }

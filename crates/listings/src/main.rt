@@ -4,19 +4,17 @@
 ghost use Rattle.std.specs.Prelude.{IfOk, ◌≤◌, length};
 
 use finder::output::write_listing;
-use std::alloc::Global;
 use std::io::{self, Stdin, Stdout};
 
 const MOST_INPUTS: usize = 100_000_000;
 
-fn list(alloc: Global, output: &mut Stdout, input: &[u8]) -> io::Result<()> {
+fn list(output: &mut Stdout, input: &[u8], out: &mut [u8; 128045]) -> io::Result<()> {
     // Rows one after another: a pool has three numbers, a table two, a call four.
     let mut labels = [0u32; 1024];
     let mut pools = [0u32; 3 * 1024];
     let mut jump_tables = [0u32; 2 * 64];
     let mut inline_tables = [0u32; 2 * 64];
     let mut calls = [0u32; 4 * 1024];
-    let mut out = vec![in alloc; 0u8; 128045]?;
     write_listing(
         output,
         input,
@@ -25,7 +23,7 @@ fn list(alloc: Global, output: &mut Stdout, input: &[u8]) -> io::Result<()> {
         &mut jump_tables[..],
         &mut inline_tables[..],
         &mut calls[..],
-        &mut out,
+        &mut out[..],
     )
 }
 
@@ -38,7 +36,12 @@ fn read_next(from: &mut Stdin, input: &mut [u8], count: usize) -> io::Result<usi
 }
 
 // False at the end, and where a count is above what `listfn` reads.
-fn list_next(alloc: Global, from: &mut Stdin, output: &mut Stdout) -> io::Result<bool> {
+fn list_next(
+    from: &mut Stdin,
+    output: &mut Stdout,
+    input: &mut [u8; 16411],
+    out: &mut [u8; 128045],
+) -> io::Result<bool> {
     let mut head = [0u8; 4];
     if streams::read_full(from, &mut head)? < 4 {
         return Ok(false);
@@ -47,19 +50,28 @@ fn list_next(alloc: Global, from: &mut Stdin, output: &mut Stdout) -> io::Result
     if 16411 < count {
         return Ok(false);
     }
-    let mut input = vec![in alloc; 0u8; 16411]?;
-    let n = read_next(from, &mut input, count)?;
-    list(alloc, output, &input[..n])?;
+    let n = read_next(from, &mut input[..], count)?;
+    list(output, &input[..n], out)?;
     Ok(true)
 }
 
-fn main(rt: HostRuntime) -> io::Result<()> {
-    let mut from = rt.stdin();
-    let mut output = rt.stdout();
+fn list_all(
+    from: &mut Stdin,
+    output: &mut Stdout,
+    input: &mut [u8; 16411],
+    out: &mut [u8; 128045],
+) -> io::Result<()> {
     for _ in 0..MOST_INPUTS {
-        if !list_next(rt.alloc(), &mut from, &mut output)? {
+        if !list_next(from, output, input, out)? {
             break;
         }
     }
     Ok(())
+}
+
+// The buffers are lent by a function that does nothing else, since a proof about so long an array is slow.
+fn main(rt: HostRuntime) -> io::Result<()> {
+    let mut input = [0u8; 16411];
+    let mut out = [0u8; 128045];
+    list_all(&mut rt.stdin(), &mut rt.stdout(), &mut input, &mut out)
 }

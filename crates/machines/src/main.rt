@@ -10,7 +10,7 @@ use analysis::illegal_code::IllegalCodeState;
 use analysis::inline_table::{FoundTable, InlineTable, InlineTableAnswer, InlineTableState};
 use analysis::jump_table::{JumpTableAnswer, JumpTableStateArm, TableEnd};
 use arm::Ins;
-use std::io::{self, Write};
+use std::io::{self, Stdin, Stdout, Write};
 
 #[derive(Clone, Copy)]
 struct Row {
@@ -251,8 +251,13 @@ fn write_lines<W: Write>(output: &mut W, input: &[u8]) -> io::Result<()> {
     Ok(())
 }
 
+fn run(from: &mut Stdin, output: &mut Stdout, input: &mut [u8]) -> io::Result<()> {
+    let n = streams::read_full(from, input)?;
+    write_lines(output, &input[..n])
+}
+
+// The buffer is lent by a function that does nothing else, since a proof about so long an array is slow.
 fn main(rt: HostRuntime) -> io::Result<()> {
-    let mut input = vec![in rt.alloc(); 0u8; 262144]?;
-    let n = streams::read_full(&mut rt.stdin(), &mut input)?;
-    write_lines(&mut rt.stdout(), &input[..n])
+    let mut input = [0u8; 262144];
+    run(&mut rt.stdin(), &mut rt.stdout(), &mut input)
 }

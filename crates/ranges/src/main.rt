@@ -5,7 +5,7 @@
 ghost use Rattle.std.specs.Prelude.{◌+◌, ◌≤◌, length};
 
 use classes::{AddrLdrStr, LdrStrOffset, Op2};
-use std::io::{self, Write};
+use std::io::{self, Stdin, Stdout, Write};
 
 fn number(bytes: &[u8], at: usize) -> u32
     requires { at + 4 ≤ length bytes.now }
@@ -87,8 +87,13 @@ fn write_lines<W: Write>(output: &mut W, input: &[u8]) -> io::Result<()> {
     Ok(())
 }
 
+fn run(from: &mut Stdin, output: &mut Stdout, input: &mut [u8]) -> io::Result<()> {
+    let n = streams::read_full(from, input)?;
+    write_lines(output, &input[..n])
+}
+
+// The buffer is lent by a function that does nothing else, since a proof about so long an array is slow.
 fn main(rt: HostRuntime) -> io::Result<()> {
-    let mut input = vec![in rt.alloc(); 0u8; 4096]?;
-    let n = streams::read_full(&mut rt.stdin(), &mut input)?;
-    write_lines(&mut rt.stdout(), &input[..n])
+    let mut input = [0u8; 4096];
+    run(&mut rt.stdin(), &mut rt.stdout(), &mut input)
 }
