@@ -7,7 +7,7 @@ use Rattle.classes.specs.Class.{is}
 use Rattle.analysis.specs.declared.illegal_code.IllegalCodeState.{IllegalCodeState}
 use Rattle.analysis.specs.declared.illegal_code.IllegalCodeState.TheVariants.{Start, ShiftedRegisterValue, Illegal}
 use Rattle.analysis.specs.Pattern.{by_itself, pc}
-use Rattle.base.specs.Refusals.{illegal_opcode, shifted_base, offset_by_itself as offset_refused, pc_into_pc}
+use Rattle.base.specs.declared.refusal.Refusal.TheVariants.{IllegalOpcode, ShiftedBase, OffsetByItself, PcIntoPc}
 use Rattle.base.specs.Choice.{pick, both}
 
 -- a register gets a shifted value
@@ -31,11 +31,10 @@ pc_in_list regs = eqb (regs / 2 ^ 15 % 2) 1
 unfoldable pub reads_pc_into_pc : Ins → Bool
 reads_pc_into_pc i = both (is i.class Ldm) (both (eqb i.rn pc) (pc_in_list i.regs))
 
--- the reasons are document 01's numbers
 unfoldable pub illegal_code : IllegalCodeState → Ins → IllegalCodeState
 illegal_code s i =
-    pick (is i.class ILLEGAL) (Illegal illegal_opcode)
+    pick (is i.class ILLEGAL) (Illegal IllegalOpcode)
     (pick (is_shift i) (ShiftedRegisterValue i.rd)
-    (pick (dereferenced s i) (Illegal shifted_base)
-    (pick (offset_by_itself i) (Illegal offset_refused)
-    (pick (reads_pc_into_pc i) (Illegal pc_into_pc) Start))))
+    (pick (dereferenced s i) (Illegal ShiftedBase)
+    (pick (offset_by_itself i) (Illegal OffsetByItself)
+    (pick (reads_pc_into_pc i) (Illegal PcIntoPc) Start))))

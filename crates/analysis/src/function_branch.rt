@@ -6,7 +6,7 @@ use crate::pattern::{AL, GE, IP, LR, MI, PC, SP, is_data, is_pre, is_register, i
 use arm::Ins;
 use classes::Class;
 
-#[derive(Clone, Copy)]
+#[derive(Clone, Copy, PartialEq, Eq)]
 pub enum FunctionBranchState {
     Start,
     Eors,
@@ -24,10 +24,10 @@ impl FunctionBranchState {
         match self {
             FunctionBranchState::Start => start(ins),
             FunctionBranchState::Eors => after_eors(ins),
-            FunctionBranchState::MovgePcLr => branch(ins),
-            FunctionBranchState::MovFromSp => branch(ins),
             FunctionBranchState::LdrIpPc => after_ldr(ins),
-            FunctionBranchState::AddR0Ip => branch(ins),
+            FunctionBranchState::MovgePcLr
+            | FunctionBranchState::MovFromSp
+            | FunctionBranchState::AddR0Ip => branch(ins),
             FunctionBranchState::FunctionBranch => FunctionBranchState::Start,
         }
     }
@@ -35,110 +35,86 @@ impl FunctionBranchState {
     pub fn is_function_branch(self) -> bool
         ensures { result ≡ is_function_branch self }
     {
-        match self {
-            FunctionBranchState::Start => false,
-            FunctionBranchState::Eors => false,
-            FunctionBranchState::MovgePcLr => false,
-            FunctionBranchState::MovFromSp => false,
-            FunctionBranchState::LdrIpPc => false,
-            FunctionBranchState::AddR0Ip => false,
-            FunctionBranchState::FunctionBranch => true,
-        }
+        self == FunctionBranchState::FunctionBranch
     }
 }
 
+#[tactic(auto, unfolding(crate::specs::FunctionBranch::at_start))]
 fn start(ins: Ins) -> FunctionBranchState
     ensures { result ≡ at_start ins }
 {
     if is_data(ins, Class::Eor, AL, true) {
-        return FunctionBranchState::Eors;
+        FunctionBranchState::Eors
+    } else if movge_pc_lr(ins) {
+        FunctionBranchState::MovgePcLr
+    } else if mov_from_sp(ins) {
+        FunctionBranchState::MovFromSp
+    } else if ldr_ip_pc(ins) {
+        FunctionBranchState::LdrIpPc
+    } else {
+        FunctionBranchState::Start
     }
-    if movge_pc_lr(ins) {
-        return FunctionBranchState::MovgePcLr;
-    }
-    if mov_from_sp(ins) {
-        return FunctionBranchState::MovFromSp;
-    }
-    if ldr_ip_pc(ins) {
-        return FunctionBranchState::LdrIpPc;
-    }
-    FunctionBranchState::Start
 }
 
+#[tactic(auto, unfolding(crate::specs::FunctionBranch::movge_pc_lr))]
 fn movge_pc_lr(ins: Ins) -> bool
     ensures { result ≡ movge_pc_lr ins }
 {
-    if is_data(ins, Class::Mov, GE, false) {
-        if ins.rd == PC {
-            let op2 = ins.op2;
-            return is_register(op2, LR);
-        }
-    }
-    false
+    is_data(ins, Class::Mov, GE, false) && ins.rd == PC && is_register(ins.op2, LR)
 }
 
+#[tactic(auto, unfolding(crate::specs::FunctionBranch::mov_from_sp))]
 fn mov_from_sp(ins: Ins) -> bool
     ensures { result ≡ mov_from_sp ins }
 {
-    if is_data(ins, Class::Mov, AL, false) {
-        let op2 = ins.op2;
-        return is_register(op2, SP);
-    }
-    false
+    is_data(ins, Class::Mov, AL, false) && is_register(ins.op2, SP)
 }
 
+#[tactic(auto, unfolding(crate::specs::FunctionBranch::ldr_ip_pc))]
 fn ldr_ip_pc(ins: Ins) -> bool
     ensures { result ≡ ldr_ip_pc ins }
 {
-    if is_when(ins, Class::Ldr, AL) {
-        if ins.rd == IP {
-            let addr = ins.addr;
-            return is_pre(addr, PC);
-        }
-    }
-    false
+    is_when(ins, Class::Ldr, AL) && ins.rd == IP && is_pre(ins.addr, PC)
 }
 
+#[tactic(auto, unfolding(crate::specs::FunctionBranch::add_r0_ip))]
 fn add_r0_ip(ins: Ins) -> bool
     ensures { result ≡ add_r0_ip ins }
 {
-    if is_data(ins, Class::Add, AL, false) {
-        if ins.rd == 0 {
-            if ins.rn == 0 {
-                let op2 = ins.op2;
-                return is_register(op2, IP);
-            }
-        }
-    }
-    false
+    is_data(ins, Class::Add, AL, false) && ins.rd == 0 && ins.rn == 0 && is_register(ins.op2, IP)
 }
 
+#[tactic(auto, unfolding(crate::specs::FunctionBranch::after_eors))]
 fn after_eors(ins: Ins) -> FunctionBranchState
     ensures { result ≡ after_eors ins }
 {
     if is_when(ins, Class::B, MI) {
-        return FunctionBranchState::FunctionBranch;
+        FunctionBranchState::FunctionBranch
+    } else if ins.updates_condition_flags {
+        FunctionBranchState::Start
+    } else {
+        FunctionBranchState::Eors
     }
-    if ins.updates_condition_flags {
-        return FunctionBranchState::Start;
-    }
-    FunctionBranchState::Eors
 }
 
+#[tactic(auto, unfolding(crate::specs::FunctionBranch::before_branch))]
 fn branch(ins: Ins) -> FunctionBranchState
     ensures { result ≡ before_branch ins }
 {
     if is_when(ins, Class::B, AL) {
-        return FunctionBranchState::FunctionBranch;
+        FunctionBranchState::FunctionBranch
+    } else {
+        FunctionBranchState::Start
     }
-    FunctionBranchState::Start
 }
 
+#[tactic(auto, unfolding(crate::specs::FunctionBranch::after_ldr))]
 fn after_ldr(ins: Ins) -> FunctionBranchState
     ensures { result ≡ after_ldr ins }
 {
     if add_r0_ip(ins) {
-        return FunctionBranchState::AddR0Ip;
+        FunctionBranchState::AddR0Ip
+    } else {
+        FunctionBranchState::Start
     }
-    FunctionBranchState::Start
 }

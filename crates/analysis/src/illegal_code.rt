@@ -4,99 +4,75 @@ ghost use Rattle.analysis.specs.IllegalCode.{illegal_code, is_shift, dereference
 
 use crate::pattern::{PC, by_itself};
 use arm::Ins;
-use base::refusal::{ILLEGAL_OPCODE, OFFSET_BY_ITSELF, PC_INTO_PC, SHIFTED_BASE};
+use base::refusal::Refusal;
 use classes::Class;
 
-// `reason` is the refusal's number in document 01.
-#[derive(Clone, Copy)]
+#[derive(Clone, Copy, PartialEq, Eq)]
 pub enum IllegalCodeState {
     Start,
     ShiftedRegisterValue { reg: u8 },
-    Illegal { reason: u8 },
+    Illegal { reason: Refusal },
 }
 
 impl IllegalCodeState {
+    #[tactic(auto, using(classes::proofs::Numbers::same_class), unfolding(crate::specs::IllegalCode::illegal_code))]
     pub fn handle(self, ins: Ins) -> IllegalCodeState
         ensures { result ≡ illegal_code self ins }
     {
-        if ins.is(Class::Illegal) {
-            return IllegalCodeState::Illegal {
-                reason: ILLEGAL_OPCODE,
-            };
+        if ins.class == Class::Illegal {
+            IllegalCodeState::Illegal {
+                reason: Refusal::IllegalOpcode,
+            }
+        } else if is_shift(ins) {
+            IllegalCodeState::ShiftedRegisterValue { reg: ins.rd }
+        } else if dereferenced_by(self, ins) {
+            IllegalCodeState::Illegal {
+                reason: Refusal::ShiftedBase,
+            }
+        } else if offset_by_itself(ins) {
+            IllegalCodeState::Illegal {
+                reason: Refusal::OffsetByItself,
+            }
+        } else if reads_pc_into_pc(ins) {
+            IllegalCodeState::Illegal {
+                reason: Refusal::PcIntoPc,
+            }
+        } else {
+            IllegalCodeState::Start
         }
-        if is_shift(ins) {
-            return IllegalCodeState::ShiftedRegisterValue { reg: ins.rd };
-        }
-        if dereferenced_by(self, ins) {
-            return IllegalCodeState::Illegal {
-                reason: SHIFTED_BASE,
-            };
-        }
-        if offset_by_itself(ins) {
-            return IllegalCodeState::Illegal {
-                reason: OFFSET_BY_ITSELF,
-            };
-        }
-        if reads_pc_into_pc(ins) {
-            return IllegalCodeState::Illegal { reason: PC_INTO_PC };
-        }
-        IllegalCodeState::Start
     }
 }
 
+#[tactic(auto, using(classes::proofs::Numbers::same_class), unfolding(crate::specs::IllegalCode::is_shift))]
 fn is_shift(ins: Ins) -> bool
     ensures { result ≡ is_shift ins }
 {
-    if ins.is(Class::Lsl) {
-        return true;
-    }
-    if ins.is(Class::Lsr) {
-        return true;
-    }
-    if ins.is(Class::Asr) {
-        return true;
-    }
-    ins.is(Class::Ror)
+    matches!(ins.class, Class::Lsl | Class::Lsr | Class::Asr | Class::Ror)
 }
 
+#[tactic(auto, using(classes::proofs::Numbers::same_class), unfolding(crate::specs::IllegalCode::dereferenced))]
 fn dereferenced_by(state: IllegalCodeState, ins: Ins) -> bool
     ensures { result ≡ dereferenced state ins }
 {
-    match state {
-        IllegalCodeState::Start => false,
-        IllegalCodeState::ShiftedRegisterValue { reg } => {
-            if ins.is(Class::Stm) {
-                return reg == ins.rn;
-            }
-            false
-        }
-        IllegalCodeState::Illegal { reason: _ } => false,
-    }
+    matches!(state, IllegalCodeState::ShiftedRegisterValue { reg } if ins.class == Class::Stm && reg == ins.rn)
 }
 
+#[tactic(auto, using(classes::proofs::Numbers::same_class), unfolding(crate::specs::IllegalCode::offset_by_itself))]
 fn offset_by_itself(ins: Ins) -> bool
     ensures { result ≡ offset_by_itself ins }
 {
-    if ins.is(Class::Str) {
-        let addr = ins.addr;
-        return by_itself(addr);
-    }
-    false
+    ins.class == Class::Str && by_itself(ins.addr)
 }
 
 fn pc_in_list(regs: u16) -> bool
     ensures { result ≡ pc_in_list regs }
 {
-    regs / 0x8000 % 2 == 1
+    regs >> PC & 1 == 1
 }
 
+#[tactic(auto, using(classes::proofs::Numbers::same_class), unfolding(crate::specs::IllegalCode::reads_pc_into_pc))]
 fn reads_pc_into_pc(ins: Ins) -> bool
     ensures { result ≡ reads_pc_into_pc ins }
 {
-    if ins.is(Class::Ldm) {
-        if ins.rn == PC {
-            return pc_in_list(ins.regs);
-        }
-    }
-    false
+    ins.class == Class::Ldm && ins.rn == PC && pc_in_list(ins.regs)
 }

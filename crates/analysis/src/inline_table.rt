@@ -1,18 +1,19 @@
 // Data tables inside a function, by the two instructions that read one (inline_table.rs).
 ghost use Rattle.std.specs.Prelude.{◌≡◌};
-ghost use Rattle.analysis.specs.InlineTable.{inline_table, sub_pc_of, sub_from, table_address, is_table_load, table_made, table_of, ahead_of};
+ghost use Rattle.analysis.specs.InlineTable.{inline_table, sub_pc_of, table_address, is_table_load, table_made, table_of, ahead_of};
 
 use crate::pattern::{AL, PC, by_lsr, is_data, is_pre, is_when};
 use arm::Ins;
+use base::refusal::Refusal;
 use classes::{Class, Op2};
 
-#[derive(Clone, Copy)]
+#[derive(Clone, Copy, PartialEq, Eq)]
 pub struct InlineTable {
     pub address: u32,
     pub size: u32,
 }
 
-#[derive(Clone, Copy)]
+#[derive(Clone, Copy, PartialEq, Eq)]
 pub enum InlineTableState {
     Start,
     SubPc {
@@ -23,21 +24,9 @@ pub enum InlineTableState {
     ValidTable(InlineTable),
 }
 
-// The next state; or, where a table's address or end leaves 32 bits, document 01's refusal 12.
-#[derive(Clone, Copy)]
-pub enum InlineTableAnswer {
-    Next(InlineTableState),
-    Refused,
-}
-
-#[derive(Clone, Copy)]
-pub enum FoundTable {
-    Table(InlineTable),
-    Nothing,
-}
-
 impl InlineTableState {
-    pub fn handle(self, thumb: bool, address: u32, ins: Ins) -> InlineTableAnswer
+    // The next state, unless a table's address or end leaves 32 bits.
+    pub fn handle(self, thumb: bool, address: u32, ins: Ins) -> Result<InlineTableState, Refusal>
         ensures { result ≡ inline_table self thumb address ins }
     {
         match self {
@@ -46,106 +35,75 @@ impl InlineTableState {
                 table_base,
                 table_address,
                 size,
-            } => {
-                if is_table_load(ins, table_base) {
-                    return table_made(table_address, size);
-                }
-                InlineTableAnswer::Next(InlineTableState::Start)
-            }
-            InlineTableState::ValidTable(_) => InlineTableAnswer::Next(InlineTableState::Start),
+            } if is_table_load(ins, table_base) => table_made(table_address, size),
+            _ => Ok(InlineTableState::Start),
         }
     }
 
-    pub fn get_table(self) -> FoundTable
+    pub fn get_table(self) -> Option<InlineTable>
         ensures { result ≡ table_of self }
     {
         match self {
-            InlineTableState::Start => FoundTable::Nothing,
-            InlineTableState::SubPc {
-                table_base: _,
-                table_address: _,
-                size: _,
-            } => FoundTable::Nothing,
-            InlineTableState::ValidTable(table) => FoundTable::Table(table),
+            InlineTableState::ValidTable(table) => Some(table),
+            _ => None,
         }
     }
 }
 
 // sub table_base, pc, #offset
-fn start(thumb: bool, address: u32, ins: Ins) -> InlineTableAnswer
+#[tactic(auto, unfolding(crate::specs::InlineTable::sub_pc_of, crate::specs::InlineTable::sub_from))]
+fn start(thumb: bool, address: u32, ins: Ins) -> Result<InlineTableState, Refusal>
     ensures { result ≡ sub_pc_of thumb address ins }
 {
-    if is_data(ins, Class::Sub, AL, false) {
-        if ins.rn == PC {
-            let op2 = ins.op2;
-            return sub_from(thumb, address, ins.rd, op2);
+    match ins.op2 {
+        Op2::Imm(offset) if is_data(ins, Class::Sub, AL, false) && ins.rn == PC => {
+            table_address(thumb, address, ins.rd, offset)
         }
-    }
-    InlineTableAnswer::Next(InlineTableState::Start)
-}
-
-fn sub_from(thumb: bool, address: u32, rd: u8, op2: Op2) -> InlineTableAnswer
-    ensures { result ≡ sub_from thumb address rd op2 }
-{
-    match op2 {
-        Op2::Imm(offset) => table_address(thumb, address, rd, offset),
-        Op2::ShiftImm {
-            rm: _,
-            shift_op: _,
-            imm: _,
-        } => InlineTableAnswer::Next(InlineTableState::Start),
-        Op2::ShiftReg {
-            rm: _,
-            shift_op: _,
-            rs: _,
-        } => InlineTableAnswer::Next(InlineTableState::Start),
+        _ => Ok(InlineTableState::Start),
     }
 }
 
-fn table_address(thumb: bool, address: u32, rd: u8, offset: u32) -> InlineTableAnswer
+#[tactic(auto, unfolding(crate::specs::InlineTable::table_address))]
+fn table_address(
+    thumb: bool,
+    address: u32,
+    rd: u8,
+    offset: u32,
+) -> Result<InlineTableState, Refusal>
     ensures { result ≡ table_address thumb address rd offset }
 {
-    let sum = address as u64 + ahead(thumb);
-    if sum < offset as u64 {
-        return InlineTableAnswer::Refused;
-    }
-    let table = sum - offset as u64;
-    if table < 0x1_0000_0000 {
-        return InlineTableAnswer::Next(InlineTableState::SubPc {
-            table_base: rd,
-            table_address: table as u32,
-            size: 0x100,
-        });
-    }
-    InlineTableAnswer::Refused
+    let ahead = ahead(thumb);
+    let table = if offset <= ahead {
+        address.checked_add(ahead - offset)
+    } else {
+        address.checked_sub(offset - ahead)
+    };
+    Ok(InlineTableState::SubPc {
+        table_base: rd,
+        table_address: table.ok_or(Refusal::Beyond32Bits)?,
+        size: 0x100,
+    })
 }
 
 // How far a table that PC less 0 names lies ahead: 0x100, and what PC reads as past the instruction.
-fn ahead(thumb: bool) -> u64
+fn ahead(thumb: bool) -> u32
     ensures { result ≡ ahead_of thumb }
 {
     if thumb { 0x104 } else { 0x108 }
 }
 
 // ldrb *, [table_base, r* lsr #*]
+#[tactic(auto, unfolding(crate::specs::InlineTable::is_table_load))]
 fn is_table_load(ins: Ins, table_base: u8) -> bool
     ensures { result ≡ is_table_load ins table_base }
 {
-    if is_when(ins, Class::Ldrb, AL) {
-        let addr = ins.addr;
-        if is_pre(addr, table_base) {
-            return by_lsr(addr);
-        }
-    }
-    false
+    is_when(ins, Class::Ldrb, AL) && is_pre(ins.addr, table_base) && by_lsr(ins.addr)
 }
 
-fn table_made(address: u32, size: u32) -> InlineTableAnswer
+#[tactic(auto, unfolding(crate::specs::InlineTable::table_made))]
+fn table_made(address: u32, size: u32) -> Result<InlineTableState, Refusal>
     ensures { result ≡ table_made address size }
 {
-    let end = address as u64 + size as u64;
-    if end < 0x1_0000_0000 {
-        return InlineTableAnswer::Next(InlineTableState::ValidTable(InlineTable { address, size }));
-    }
-    InlineTableAnswer::Refused
+    address.checked_add(size).ok_or(Refusal::Beyond32Bits)?;
+    Ok(InlineTableState::ValidTable(InlineTable { address, size }))
 }

@@ -2,20 +2,21 @@
 -- undefined register of number 11.
 -- Assumes nothing.
 use Rattle.std.specs.Prelude.{ℕ}
+use Rattle.base.specs.Refusals.{refusal_no}
 use Rattle.walk.specs.declared.Answer.{Answer}
 use Rattle.walk.specs.declared.Answer.TheVariants.{Going, Accepted, Refused}
 
 abbrev pub number_of : Answer → ℕ
 number_of Going = 0
 number_of (Accepted r) = 0
-number_of (Refused number address register) = number
+number_of (Refused refusal address register) = refusal_no refusal
 
 abbrev pub address_of : Answer → ℕ
 address_of Going = 0
 address_of (Accepted r) = 0
-address_of (Refused number address register) = address
+address_of (Refused refusal address register) = address
 
 abbrev pub register_of : Answer → ℕ
 register_of Going = 0
 register_of (Accepted r) = 0
-register_of (Refused number address register) = register
+register_of (Refused refusal address register) = register

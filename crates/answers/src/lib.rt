@@ -11,13 +11,8 @@ pub fn number(answer: Answer) -> u8
     ensures { result ≡ number_of answer }
 {
     match answer {
-        Answer::Going => 0,
-        Answer::Accepted(_) => 0,
-        Answer::Refused {
-            number,
-            address: _,
-            register: _,
-        } => number,
+        Answer::Refused { refusal, .. } => u8::from(refusal),
+        _ => 0,
     }
 }
 
@@ -26,13 +21,8 @@ pub fn address(answer: Answer) -> u32
     ensures { result ≡ address_of answer }
 {
     match answer {
-        Answer::Going => 0,
-        Answer::Accepted(_) => 0,
-        Answer::Refused {
-            number: _,
-            address,
-            register: _,
-        } => address,
+        Answer::Refused { address, .. } => address,
+        _ => 0,
     }
 }
 
@@ -41,12 +31,7 @@ pub fn register(answer: Answer) -> u8
     ensures { result ≡ register_of answer }
 {
     match answer {
-        Answer::Going => 0,
-        Answer::Accepted(_) => 0,
-        Answer::Refused {
-            number: _,
-            address: _,
-            register,
-        } => register,
+        Answer::Refused { register, .. } => register,
+        _ => 0,
     }
 }

@@ -12,9 +12,7 @@ use lib.ListN.{length}
 use Rattle.classes.specs.declared.Class.{Class}
 use Rattle.classes.specs.declared.Class.TheVariants.{Illegal, Mov, Stm, Ldm, Str, Ldr, Push, Pop}
 use Rattle.classes.specs.declared.ShiftOp.{ShiftOp}
-use Rattle.classes.specs.declared.ShiftOp.TheVariants.{Lsl, Lsr, Asr, Ror, Rrx}
 use Rattle.classes.specs.declared.Op2.{Op2}
-use Rattle.classes.specs.declared.Op2.TheVariants.{Imm, ShiftImm, ShiftReg}
 use Rattle.classes.specs.Class.{class_no, is}
 use Rattle.encodings.specs.Diagram
 use Rattle.encodings.specs.Diagram.{Encoding, fits, fitting, first_or, view}
@@ -153,43 +151,23 @@ kinds w = go (undefined-or w) (kinds-of (fitting encodings (view w)))
 
 added-shift : (o : ShiftOp) → (shift_name o ≡ Mov) ⊎ Added (shift_name o)
 unfolding shift_name class_no
-added-shift Lsl = inr (omega arith)
-added-shift Lsr = inr (omega arith)
-added-shift Asr = inr (omega arith)
-added-shift Ror = inr (omega arith)
-added-shift Rrx = inl refl
+added-shift o = grind arith
 
 added-mov : (o : Op2) → (mov_name o ≡ Mov) ⊎ Added (mov_name o)
-unfolding mov_name
-added-mov (Imm v) = inl refl
-added-mov (ShiftImm rm o n) = go (eqb n 0)
-  where
-    go : (b : Bool) → (elim b as (λ _. Class) [ true ↦ Mov | false ↦ shift_name o ] ≡ Mov) ⊎ Added (elim b as (λ _. Class) [ true ↦ Mov | false ↦ shift_name o ])
-    go true = inl refl
-    go false = added-shift o
-added-mov (ShiftReg rm o rs) = added-shift o
+unfolding mov_name shift_name class_no
+added-mov o = grind arith
+
+-- where two tests pass the name is an added one
+added-by-two : (a b : Bool) (k j : Class) → Added j → (elim a as (λ _. Class) [ true ↦ elim b as (λ _. Class) [ true ↦ j | false ↦ k ] | false ↦ k ] ≡ k) ⊎ Added (elim a as (λ _. Class) [ true ↦ elim b as (λ _. Class) [ true ↦ j | false ↦ k ] | false ↦ k ])
+added-by-two a b k j h = grind arith
 
 added-stm : (w : ℕ) → (stm_name w ≡ Stm) ⊎ Added (stm_name w)
 unfolding stm_name class_no
-added-stm w = go (eqb (w / 65536 % 512) 301)
-  where
-    go : (b : Bool) → (elim b as (λ _. Class) [ true ↦ Push | false ↦ Stm ] ≡ Stm) ⊎ Added (elim b as (λ _. Class) [ true ↦ Push | false ↦ Stm ])
-    go true = inr (omega arith)
-    go false = inl refl
+added-stm w = added-by-two (eqb (w / 65536 % 512) 301) true Stm Push (omega arith, omega arith)
 
 added-ldm : (w : ℕ) → (ldm_name w ≡ Ldm) ⊎ Added (ldm_name w)
 unfolding ldm_name class_no
-added-ldm w = go (eqb (w / 65536 % 512) 189)
-  where
-    go : (b : Bool) → (elim b as (λ _. Class) [ true ↦ Pop | false ↦ Ldm ] ≡ Ldm) ⊎ Added (elim b as (λ _. Class) [ true ↦ Pop | false ↦ Ldm ])
-    go true = inr (omega arith)
-    go false = inl refl
-
--- the same for two tests
-added-by-two : (a b : Bool) (k j : Class) → Added j → (elim a as (λ _. Class) [ true ↦ elim b as (λ _. Class) [ true ↦ j | false ↦ k ] | false ↦ k ] ≡ k) ⊎ Added (elim a as (λ _. Class) [ true ↦ elim b as (λ _. Class) [ true ↦ j | false ↦ k ] | false ↦ k ])
-added-by-two true true k j h = inr h
-added-by-two true false k j h = inl refl
-added-by-two false b k j h = inl refl
+added-ldm w = added-by-two (eqb (w / 65536 % 512) 189) true Ldm Pop (omega arith, omega arith)
 
 added-str : (w : ℕ) → (str_name w ≡ Str) ⊎ Added (str_name w)
 unfolding str_name class_no

@@ -6,12 +6,11 @@ use Prim.Native.Nat.{ℕ, ◌/◌, ◌%◌, ◌<◌}
 use native.Mathlib.Omega.{arith}
 use borrow.Author.Tests.{eq-eqb}
 use lib.Dec.{T, eqb, eqb→eq}
+use Rattle.std.proofs.lemmas.Bool.Decides.{nat_tests}
 use Rattle.classes.specs.declared.Class.{Class}
-use Rattle.classes.specs.declared.Class.TheVariants.{Mov, Stm, Ldm, Str, Ldr, Push, Pop}
+use Rattle.classes.specs.declared.Class.TheVariants.{Stm, Ldm, Str, Ldr, Push, Pop}
 use Rattle.classes.specs.declared.ShiftOp.{ShiftOp}
-use Rattle.classes.specs.declared.ShiftOp.TheVariants.{Lsl, Lsr, Asr, Ror, Rrx}
 use Rattle.classes.specs.declared.Op2.{Op2}
-use Rattle.classes.specs.declared.Op2.TheVariants.{Imm, ShiftImm, ShiftReg}
 use Rattle.classes.specs.Class.{class_no}
 use Rattle.encodings.specs.Diagram.{unconditional}
 use Rattle.encodings.specs.Encodings.{encoding_of}
@@ -109,19 +108,7 @@ block w t = (
 
 -- two tests that give j, or else k, gave j
 both-passed : (x a y b : ℕ) (j k : Class) → (k ≡ j → ⊥) → elim (eqb x a) as (λ _. Class) [ true ↦ elim (eqb y b) as (λ _. Class) [ true ↦ j | false ↦ k ] | false ↦ k ] ≡ j → (x ≡ a) × (y ≡ b)
-both-passed x a y b j k n e = go (eqb x a) refl (eqb y b) refl e
-  where
-    go : (s : Bool) → eqb x a ≡ s → (t : Bool) → eqb y b ≡ t → elim s as (λ _. Class) [ true ↦ elim t as (λ _. Class) [ true ↦ j | false ↦ k ] | false ↦ k ] ≡ j → (x ≡ a) × (y ≡ b)
-    go true p true q f = (eqb→eq x a (subst (λ (c : Bool). T c) (sym p) tt), eqb→eq y b (subst (λ (c : Bool). T c) (sym q) tt))
-    go true p false q f = absurd (n f)
-    go false p t q f = absurd (n f)
-
-passed : (x a : ℕ) (j k : Class) → (k ≡ j → ⊥) → elim (eqb x a) as (λ _. Class) [ true ↦ j | false ↦ k ] ≡ j → x ≡ a
-passed x a j k n e = go (eqb x a) refl e
-  where
-    go : (s : Bool) → eqb x a ≡ s → elim s as (λ _. Class) [ true ↦ j | false ↦ k ] ≡ j → x ≡ a
-    go true p f = eqb→eq x a (subst (λ (c : Bool). T c) (sym p) tt)
-    go false p f = absurd (n f)
+both-passed x a y b j k n e = grind (arith, nat_tests)
 
 -- neither of two names is a third
 neither : (b c : Bool) (i j k : Class) → (i ≡ k → ⊥) → (j ≡ k → ⊥) → elim b as (λ _. Class) [ true ↦ elim c as (λ _. Class) [ true ↦ i | false ↦ j ] | false ↦ j ] ≡ k → ⊥
@@ -131,32 +118,16 @@ neither false c i j k m n e = n e
 
 -- classes with unlike numbers are unlike
 apart : (j k : Class) → T (not (eqb (class_no j) (class_no k))) → j ≡ k → ⊥
-apart j k t e = go (eqb (class_no j) (class_no k)) (eq-eqb (class_no j) (class_no k) (ap class_no e)) t
-  where
-    go : (b : Bool) → b ≡ true → T (not b) → ⊥
-    go b p t = subst (λ (c : Bool). T (not c)) p t
+apart j k t e = grind (arith, nat_tests)
 
 -- MOV's rule gives Mov or a shift
 shift-no : (o : ShiftOp) (k : Class) → (class_no k < 69) × (28 < class_no k) → shift_name o ≡ k → ⊥
 unfolding shift_name class_no
-shift-no o k h e = go o (ap class_no e)
-  where
-    go : (o : ShiftOp) → class_no (shift_name o) ≡ class_no k → ⊥
-    go Lsl e = omega arith
-    go Lsr e = omega arith
-    go Asr e = omega arith
-    go Ror e = omega arith
-    go Rrx e = omega arith
+shift-no o k h e = grind arith
 
 mov-no : (o : Op2) (k : Class) → (class_no k < 69) × (28 < class_no k) → mov_name o ≡ k → ⊥
-unfolding mov_name class_no
-mov-no (Imm v) k h e = let n : 28 ≡ class_no k = ap class_no e in omega arith
-mov-no (ShiftImm rm o n) k h e = go (eqb n 0) e
-  where
-    go : (b : Bool) → elim b as (λ _. Class) [ true ↦ Mov | false ↦ shift_name o ] ≡ k → ⊥
-    go true f = let n : 28 ≡ class_no k = ap class_no f in omega arith
-    go false f = shift-no o k h f
-mov-no (ShiftReg rm o rs) k h e = shift-no o k h e
+unfolding mov_name shift_name class_no
+mov-no o k h e = grind arith
 
 pub push-fields : (w : ℕ) → class_of w ≡ Push → IsPush w
 unfolding class_of stm_name ldm_name str_name ldr_name class_no
@@ -166,7 +137,7 @@ push-fields w e = go (rule (encoding_of w) Push w e)
     go (by-mov k n) = absurd (mov-no (op2_of w) Push (omega arith, omega arith) n)
     go (by-stm k n) =
         let f = block w (placed_at w Stm k) in
-        let r : w / 65536 % 512 ≡ 301 = passed (w / 65536 % 512) 301 Push Stm (apart Stm Push tt) n in
+        let r : w / 65536 % 512 ≡ 301 = (both-passed (w / 65536 % 512) 301 0 0 Push Stm (apart Stm Push tt) n).0 in
         let g : w / 1048576 % 256 / 32 ≡ 4 = f.1 in
         record { condition = f.0; transfer = inl (omega arith) }
     go (by-ldm k n) = absurd (neither (eqb (w / 65536 % 512) 189) true Pop Ldm Push (apart Pop Push tt) (apart Ldm Push tt) n)
@@ -185,7 +156,7 @@ pop-fields w e = go (rule (encoding_of w) Pop w e)
     go (by-stm k n) = absurd (neither (eqb (w / 65536 % 512) 301) true Push Stm Pop (apart Push Pop tt) (apart Stm Pop tt) n)
     go (by-ldm k n) =
         let f = block w (placed_at w Ldm k) in
-        let r : w / 65536 % 512 ≡ 189 = passed (w / 65536 % 512) 189 Pop Ldm (apart Ldm Pop tt) n in
+        let r : w / 65536 % 512 ≡ 189 = (both-passed (w / 65536 % 512) 189 0 0 Pop Ldm (apart Ldm Pop tt) n).0 in
         let g : w / 1048576 % 256 / 32 ≡ 4 = f.1 in
         record { condition = f.0; transfer = inl (omega arith) }
     go (by-str k n) = absurd (neither (eqb (w / 65536 % 4096) 1325) (eqb (w % 4096) 4) Push Str Pop (apart Push Pop tt) (apart Str Pop tt) n)

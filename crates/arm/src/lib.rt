@@ -4,11 +4,10 @@
 mod naming;
 
 ghost use Rattle.std.specs.Prelude.{◌≡◌};
-ghost use Rattle.classes.specs.Class.{is};
 ghost use Rattle.arm.specs.Naming.{class_of};
 ghost use Rattle.arm.specs.Ins.{decode_of, is_conditional};
 
-use classes::{AddrLdrStr, Class, LdmStmMode, Op2, order};
+use classes::{AddrLdrStr, Class, LdmStmMode, Op2, fields};
 use encodings::encoding;
 use modes::operands;
 use regsets::sets;
@@ -35,13 +34,6 @@ pub struct Ins {
 }
 
 impl Ins {
-    pub fn is(self, class: Class) -> bool
-        ensures { result ≡ is self.class class }
-    {
-        let own = self.class;
-        order::is(own, class)
-    }
-
     // A condition field other than 1110 and 1111.
     pub fn is_conditional(self) -> bool
         ensures { result ≡ is_conditional self.cond }
@@ -51,6 +43,7 @@ impl Ins {
 }
 
 // The class of a word.
+#[tactic(auto, unfolding(crate::specs::Naming::class_of))]
 pub fn class_of(word: u32) -> Class
     ensures { result ≡ class_of word }
 {
@@ -58,6 +51,7 @@ pub fn class_of(word: u32) -> Class
 }
 
 // The instruction that a word is at an address.
+#[tactic(auto, unfolding(crate::specs::Naming::class_of, crate::specs::Ins::decode_of))]
 pub fn decode(word: u32, address: u32) -> Ins
     ensures { result ≡ decode_of word address }
 {
@@ -66,11 +60,11 @@ pub fn decode(word: u32, address: u32) -> Ins
     let class = naming::name(encoding, word);
     Ins {
         class,
-        cond: (word / 0x1000_0000) as u8,
-        s: word / 0x10_0000 % 2 == 1,
-        rd: (word / 0x1000 % 16) as u8,
-        rn: (word / 0x1_0000 % 16) as u8,
-        rm: (word % 16) as u8,
+        cond: (word >> 28) as u8,
+        s: fields::bit(word, 20),
+        rd: fields::rd(word),
+        rn: fields::rn(word),
+        rm: fields::rm(word),
         op2: operands::op2(word),
         addr: operands::addr(word),
         mode: operands::mode(word),

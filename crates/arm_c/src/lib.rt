@@ -10,5 +10,5 @@ ghost use Rattle.arm.specs.Naming.{class_of};
 pub extern "C" fn arm_class(word: u32) -> u32
     ensures { result ≡ class_no (class_of word) }
 {
-    classes::order::number(arm::class_of(word)) as u32
+    u8::from(arm::class_of(word)).into()
 }

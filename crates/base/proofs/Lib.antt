@@ -1,4 +1,3 @@
--- What proofs share: their imports of the logic, two tests at once, and parts of the code.
+-- What proofs share: their imports of the logic, and two tests at once.
 pub mod Prelude
 pub mod ChoiceLaws
-pub mod Parts

@@ -1,51 +1,25 @@
 -- Document 01's refusals, by name.
 -- Assumes nothing.
 use Rattle.std.specs.Prelude.{ℕ}
+use Rattle.base.specs.declared.refusal.Refusal.{Refusal}
+use Rattle.base.specs.declared.refusal.Refusal.TheVariants.{BadWindow, BadStart, UnalignedStart, BadLists, IllegalOpcode, ShiftedBase, OffsetByItself, PcIntoPc, BranchOutside}
+use Rattle.base.specs.declared.refusal.Refusal.TheVariants.{PoolOutside, UndefinedRegister, Beyond32Bits, ListFull, NoEpilogue, NotDone, BadRequest}
 
-abbrev pub bad_window : ℕ
-bad_window = 1
-
-abbrev pub bad_start : ℕ
-bad_start = 2
-
-abbrev pub unaligned_start : ℕ
-unaligned_start = 3
-
-abbrev pub bad_lists : ℕ
-bad_lists = 4
-
-abbrev pub illegal_opcode : ℕ
-illegal_opcode = 5
-
-abbrev pub shifted_base : ℕ
-shifted_base = 6
-
-abbrev pub offset_by_itself : ℕ
-offset_by_itself = 7
-
-abbrev pub pc_into_pc : ℕ
-pc_into_pc = 8
-
-abbrev pub branch_outside : ℕ
-branch_outside = 9
-
-abbrev pub pool_outside : ℕ
-pool_outside = 10
-
-abbrev pub undefined_register : ℕ
-undefined_register = 11
-
-abbrev pub beyond32_bits : ℕ
-beyond32_bits = 12
-
-abbrev pub list_full : ℕ
-list_full = 13
-
-abbrev pub no_epilogue : ℕ
-no_epilogue = 14
-
-abbrev pub not_done : ℕ
-not_done = 15
-
-abbrev pub bad_request : ℕ
-bad_request = 16
+-- a refusal's number
+abbrev pub refusal_no : Refusal → ℕ
+refusal_no BadWindow = 1
+refusal_no BadStart = 2
+refusal_no UnalignedStart = 3
+refusal_no BadLists = 4
+refusal_no IllegalOpcode = 5
+refusal_no ShiftedBase = 6
+refusal_no OffsetByItself = 7
+refusal_no PcIntoPc = 8
+refusal_no BranchOutside = 9
+refusal_no PoolOutside = 10
+refusal_no UndefinedRegister = 11
+refusal_no Beyond32Bits = 12
+refusal_no ListFull = 13
+refusal_no NoEpilogue = 14
+refusal_no NotDone = 15
+refusal_no BadRequest = 16

@@ -1,33 +1,32 @@
 // Document 01's refusals, by name. docs/REFUSALS.md has the whole table.
+ghost use Rattle.std.specs.Prelude.{◌≡◌};
+ghost use Rattle.base.specs.Refusals.{refusal_no};
 
-pub const BAD_WINDOW: u8 = 1;
+// A refusal's number in document 01 is its discriminant.
+#[derive(Clone, Copy, PartialEq, Eq)]
+pub enum Refusal {
+    BadWindow = 1,
+    BadStart = 2,
+    UnalignedStart = 3,
+    BadLists = 4,
+    IllegalOpcode = 5,
+    ShiftedBase = 6,
+    OffsetByItself = 7,
+    PcIntoPc = 8,
+    BranchOutside = 9,
+    PoolOutside = 10,
+    UndefinedRegister = 11,
+    Beyond32Bits = 12,
+    ListFull = 13,
+    NoEpilogue = 14,
+    NotDone = 15,
+    BadRequest = 16,
+}
 
-pub const BAD_START: u8 = 2;
+impl From<Refusal> for u8 {
+    ghost from_gives = { λ refusal n. n ≡ refusal_no refusal };
 
-pub const UNALIGNED_START: u8 = 3;
-
-pub const BAD_LISTS: u8 = 4;
-
-pub const ILLEGAL_OPCODE: u8 = 5;
-
-pub const SHIFTED_BASE: u8 = 6;
-
-pub const OFFSET_BY_ITSELF: u8 = 7;
-
-pub const PC_INTO_PC: u8 = 8;
-
-pub const BRANCH_OUTSIDE: u8 = 9;
-
-pub const POOL_OUTSIDE: u8 = 10;
-
-pub const UNDEFINED_REGISTER: u8 = 11;
-
-pub const BEYOND_32_BITS: u8 = 12;
-
-pub const LIST_FULL: u8 = 13;
-
-pub const NO_EPILOGUE: u8 = 14;
-
-pub const NOT_DONE: u8 = 15;
-
-pub const BAD_REQUEST: u8 = 16;
+    fn from(refusal: Refusal) -> u8 {
+        refusal as u8
+    }
+}

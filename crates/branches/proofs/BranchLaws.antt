@@ -9,7 +9,7 @@ use Rattle.predicates.specs.Predicates.{is_branch}
 use Rattle.rows.specs.Map.{Held, map_in, stands-in}
 use Rattle.walk.specs.declared.Machines.{Machines}
 use Rattle.walk.specs.declared.Options.{Options}
-use Rattle.context.specs.declared.Put.TheVariants.{Call}
+use Rattle.std.specs.Prelude.{Some}
 use Rattle.context.specs.declared.State.{State}
 use Rattle.context.specs.declared.Stepped.{Stepped}
 use Rattle.context.specs.declared.Then.TheVariants.{Ends}
@@ -40,7 +40,7 @@ module _ (size : ℕ) (is_called : Bool) (s : State) (l : World) where
 
 -- a tail call, and the end
 pub tail-call : (i : Ins) (s : State) (word : ℕ) (l : World) {end : ℕ} {t : State} {r : Stepped}
-    → t ≡ putting (Call word i.target arm) s → r ≡ record { then = Ends end; state = t } → Holds s.counts l
+    → t ≡ putting (Some (record { word = word; destination = i.target; mode = arm })) s → r ≡ record { then = Ends end; state = t } → Holds s.counts l
     → Comes (has_place s.progress.address l) s.progress.address s.call r l (call_to i word arm (context_of s l) ▸ ends end)
 tail-call i s word l {end} te re h =
     go_on (ends end) refl (call-comes i s word arm l (ap onwards te) h)

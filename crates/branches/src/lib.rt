@@ -4,7 +4,7 @@
 ghost use Rattle.std.specs.Prelude.{◌≡◌, not, ℕ, ◌+◌, ◌<◌, ◌^◌, ltb, leb, length};
 ghost use Rattle.analysis.specs.FunctionBranch.{function_branch, is_function_branch};
 ghost use Rattle.base.specs.Choice.{both, either};
-ghost use Rattle.base.specs.declared.word.Word.TheVariants.{Found as W-Found};
+ghost use Rattle.std.specs.Prelude.{Some};
 ghost use Rattle.predicates.specs.Predicates.{is_branch, is_entry_instruction};
 ghost use Rattle.rows.specs.Map.{Held, map_in, stands-in};
 ghost use Rattle.context.specs.Context.{label_row, pool_row, function_branch_to};
@@ -12,18 +12,13 @@ ghost use Rattle.context.specs.Blocks.{branch_outside, is_entry_word, is_entry_a
 ghost use Rattle.context.specs.State.{Does, Puts, PutsIf, ToldOfCalls, same, machined, labels_in, pools_in, code_in, options_in, starts_in};
 
 use arm::Ins;
-use base::refusal::BRANCH_OUTSIDE;
-use base::word::{Word, word_from};
-use context::{Put, State, Stepped, assign, call_to, is_in};
+use base::refusal::Refusal;
+use base::word::word_from;
+use context::{NewCall, State, Stepped, assign, call_to, is_in};
 use labels::handle_label;
-use predicates::Callee;
+use predicates::Mode;
 use rows::search::contains;
 use walk::{Options, Progress};
-
-// A call's mode.
-const ARM: u32 = 0;
-
-const THUMB: u32 = 1;
 
 pub fn branch_outside(s: State, ins: Ins) -> Stepped
     ensures { Does same same (branch_outside ins) s result }
@@ -32,14 +27,14 @@ pub fn branch_outside(s: State, ins: Ins) -> Stepped
         if is_in(0x01FF_8000, 0x0300_0000, ins.target) {
             return assign::on(s);
         }
-        return assign::refuse(s, BRANCH_OUTSIDE);
+        return assign::refuse(s, Refusal::BranchOutside);
     }
     assign::on(s)
 }
 
 // STMDB SP!, {.., LR, ..} and STR LR, [SP, #-4]!: the word's fields are tested, since a second use of the decoder is slow.
 fn is_entry_word(word: u32) -> bool
-    ensures { (a : ℕ) → result ≡ is_entry_word (W-Found word) a }
+    ensures { (a : ℕ) → result ≡ is_entry_word (Some word) a }
 {
     if word / 0x1_0000 == 0xE92D {
         return word / 0x4000 % 2 == 1;
@@ -51,8 +46,8 @@ fn is_entry_at(code: &[u8], base: u32, address: u32) -> bool
     ensures { result ≡ is_entry_at code.now base address }
 {
     match word_from(code, base, address) {
-        Word::Found(word) => is_entry_word(word),
-        Word::Missing => false,
+        Some(word) => is_entry_word(word),
+        None => false,
     }
 }
 
@@ -112,12 +107,12 @@ pub fn final_return(
         return assign::on(assign::raise(s, end));
     }
     if is_tail_call(s.progress.start, end, ins) {
-        let call = Put::Call {
+        let call = NewCall {
             word,
             destination: ins.target,
-            mode: ARM,
+            mode: Mode::Arm as u32,
         };
-        return assign::end(assign::with_call(s, call), end);
+        return assign::end(assign::with_call(s, Some(call)), end);
     }
     assign::end(s, end)
 }
@@ -217,15 +212,14 @@ pub fn branch(
     if is_last(in_module, conditional, inside) {
         return assign::end(t, s.progress.address + size);
     }
-    call_to(t, word, ins, ARM)
+    call_to(t, word, ins, Mode::Arm as u32)
 }
 
 pub fn function_call(s: State, word: u32, ins: Ins) -> Stepped
     ensures { Puts same same (function_call ins word) s result }
 {
     match predicates::called(ins) {
-        Callee::Nothing => assign::on(s),
-        Callee::Arm => call_to(s, word, ins, ARM),
-        Callee::Thumb => call_to(s, word, ins, THUMB),
+        Some(mode) => call_to(s, word, ins, mode as u32),
+        None => assign::on(s),
     }
 }

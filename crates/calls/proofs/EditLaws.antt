@@ -2,8 +2,12 @@
 -- Assumes nothing.
 use Rattle.base.proofs.Prelude.{◌∙◌, sym, refl, ◌≡◌, ap, false, true, Bool, not, List, [], ◌∷◌, ◌++◌, map, ◌≤◌, ℕ, ◌+◌, ◌<◌, suc, ◌*◌, zero, zero-le}
 use Rattle.base.proofs.Prelude.{arith, le_of_suc-le-suc, not-suc-le-zero, add-one, eqb, ltb, leb, length, get_or, drop, take, replicate, set}
-use Rattle.base.proofs.Prelude.{length-append, take-append-drop, drop-cons, length-take-le, drop_at, take_at, le-leb, lt-leb, leb-true}
+use Rattle.base.proofs.Prelude.{length-append, take-append-drop, drop-cons, length-take-le, drop_at, take_at, le-leb, lt-leb, leb-true, leb-false}
+use Rattle.std.specs.Prelude.{min}
 use lib.ListN.{length-map}
+use Rattle.std.specs.Prelude.{Result, Ok, Err}
+use Rattle.base.specs.declared.refusal.Refusal.{Refusal}
+use Rattle.base.specs.declared.refusal.Refusal.TheVariants.{ListFull}
 use Rattle.base.specs.Choice.{pick}
 use Rattle.context.specs.Context.{call_row}
 use Rattle.rows.specs.Order.{ascending, zeros}
@@ -48,6 +52,21 @@ rewritten-turn moves call i zero (c ∷ cs) h l = absurd (not-suc-le-zero h)
 rewritten-turn moves call zero (suc e) (c ∷ cs) h l = refl
 rewritten-turn moves call (suc i) (suc e) (c ∷ cs) h l =
     ap (λ r. c ∷ r) (rewritten-turn moves call i e cs (le_of_suc-le-suc h) (le_of_suc-le-suc l))
+
+-- the end that the code writes up to
+pub rewritten-least : (moves : Bool) (call : Call) (from end : ℕ) (calls : List Call) {k : ℕ} → k ≡ min end (length calls)
+    → rewritten moves call from k calls ≡ rewritten moves call from end calls
+rewritten-least moves call from end calls {k} e = step (leb (length calls) end) refl
+  where
+    step : (b : Bool) → leb (length calls) end ≡ b → rewritten moves call from k calls ≡ rewritten moves call from end calls
+    step true q =
+        let past = leb-true (length calls) end q in
+        let same : k ≡ length calls = omega arith in
+        rw same (rewritten-past moves call from end calls past)
+    step false q =
+        let less = leb-false (length calls) end q in
+        let same : k ≡ end = omega arith in
+        rw same
 
 -- the same, by what the turn found of `moves`
 pub rewritten-back : {moves b : Bool} → moves ≡ b → (call : Call) (i e : ℕ) (cs : List Call) → i < e → i < length cs
@@ -165,15 +184,15 @@ module _ (calls : List Call) (call : Call) {n : ℕ} (h : Held call_row n (numbe
       ∙ ap (λ r. zeros (numbers_of r)) (sym (drop-cons calls n none l))
       ∙ both-second (ascending (map key_of m)) _ sorted)
 
-  pub enters-not : length calls ≤ pick held at n → Entering call_row n (numbers_of calls) (row_of call) (record { full = true; count = n }) (numbers_of calls)
+  pub enters-not : length calls ≤ pick held at n → Entering call_row n (numbers_of calls) (row_of call) (Err ListFull) (numbers_of calls)
   enters-not full = record { held = h; says = rw (is-map, grown, numbers-length calls) (step held refl full); leaves = refl }
     where
-      step : (b : Bool) → held ≡ b → length calls ≤ pick b at n → true ≡ not (leb (pick b n (suc n) * call_row) (length calls * call_row))
+      step : (b : Bool) → held ≡ b → length calls ≤ pick b at n → ◌≡◌ {A = Result ℕ Refusal} (Err ListFull) (pick (leb (pick b n (suc n) * call_row) (length calls * call_row)) (Ok n) (Err ListFull))
       step true s l = absurd (omega (arith, stands-within key_of call.address m s, long, many, l))
       step false s l = rw (lt-leb (suc n * call_row) (length calls * call_row) (omega (arith, l)))
 
   pub enters : pick held at n < length calls
-      → Entering call_row n (numbers_of calls) (row_of call) (record { full = false; count = count }) (numbers_of after)
+      → Entering call_row n (numbers_of calls) (row_of call) (Ok count) (numbers_of after)
   enters room =
       let rows : map row_of after ≡ inserted key_of (row_of call) m ++ map row_of (drop count calls) = inserts call n calls many room in
       let fresh : rows_in count after ≡ inserted key_of (row_of call) m = rw rows (take_at (inserted key_of (row_of call) m) _ count grown) in
@@ -196,11 +215,11 @@ module _ (t : Told) (call : Call) (calls : List Call) (n : ℕ) (w : Tells calls
   last-is : last ≡ pick (held calls call h) (at calls call h) n
   last-is = e ∙ rw (w.held, w.place, w.counts)
 
-  pub full_is : t.places ≤ last → Entering call_row n (numbers_of calls) (row_of call) (record { full = true; count = t.count }) (numbers_of calls)
-  full_is l = rw w.counts (enters-not calls call h (omega (arith, last-is, w.places, l)))
+  pub full_is : t.places ≤ last → Entering call_row n (numbers_of calls) (row_of call) (Err ListFull) (numbers_of calls)
+  full_is l = enters-not calls call h (omega (arith, last-is, w.places, l))
 
   pub room-is : last < t.places
-      → Entering call_row n (numbers_of calls) (row_of call) (record { full = false; count = pick t.is_held t.count (last + 1) }) (numbers_of (rewritten true call t.at (last + 1) calls))
+      → Entering call_row n (numbers_of calls) (row_of call) (Ok (pick t.is_held t.count (last + 1))) (numbers_of (rewritten true call t.at (last + 1) calls))
   room-is l =
       rw (add-one, w.counts, w.place, w.held, last-is, same (held calls call h)) (enters calls call h (omega (arith, last-is, w.places, l)))
     where

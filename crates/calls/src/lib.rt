@@ -8,7 +8,7 @@ ghost use Rattle.std.specs.Prelude.{◌≡◌};
 ghost use Rattle.base.specs.Choice.{pick};
 ghost use Rattle.calls.specs.Records.{edited, clearing, is_none, seen_by, Tells, Enters};
 
-use rows::Entered;
+use base::refusal::Refusal;
 
 #[derive(Clone, Copy)]
 pub struct Call {
@@ -49,7 +49,7 @@ pub struct Edit {
 // What entering a call left, and the change that does it.
 #[derive(Clone, Copy)]
 pub struct Entry {
-    pub entered: Entered,
+    pub entered: Result<usize, Refusal>,
     pub edit: Edit,
 }
 
@@ -123,20 +123,14 @@ pub fn clear(end: usize) -> Edit
 fn last_of(t: Told) -> usize
     ensures { result ≡ pick t.is_held t.at t.count }
 {
-    if t.is_held {
-        return t.at;
-    }
-    t.count
+    if t.is_held { t.at } else { t.count }
 }
 
 // How many calls there are once a place up to `end` is written.
 fn count_of(t: Told, end: usize) -> usize
     ensures { result ≡ pick t.is_held t.count end }
 {
-    if t.is_held {
-        return t.count;
-    }
-    end
+    if t.is_held { t.count } else { end }
 }
 
 // A call from the address that was asked for is entered: it replaces the one that stands there, or needs a free place.
@@ -146,19 +140,13 @@ pub fn enter(t: Told, call: Call) -> Entry
     let last = last_of(t);
     if t.places <= last {
         return Entry {
-            entered: Entered {
-                full: true,
-                count: t.count,
-            },
+            entered: Err(Refusal::ListFull),
             edit: clear(0),
         };
     }
     let end = last + 1;
     Entry {
-        entered: Entered {
-            full: false,
-            count: count_of(t, end),
-        },
+        entered: Ok(count_of(t, end)),
         edit: Edit {
             from: t.at,
             end,
@@ -172,16 +160,11 @@ pub fn enter(t: Told, call: Call) -> Entry
 pub fn put(calls: &mut [Call], e: Edit)
     ensures { calls.new ≡ edited e calls.old }
 {
-    let mut end = calls.len();
-    if e.end < end {
-        end = e.end;
-    }
+    let end = e.end.min(calls.len());
     let mut call = e.call;
-    let mut i = e.from;
-    while i < end {
+    for i in e.from..end {
         let next = calls[i];
         calls[i] = call;
-        i = i + 1;
         if e.moves {
             call = next;
         }

@@ -2,12 +2,10 @@
 #![tactic(auto)]
 
 use std::io::{self, Write};
-use words::Answer;
 
 fn main(rt: HostRuntime) -> io::Result<()> {
     let mut out = [0u8; 2048];
-    let answer = census_text::census_text(&mut out);
-    if let Answer::Text(length) = answer {
+    if let Ok(length) = census_text::census_text(&mut out) {
         rt.stdout().write_all(&out[..length])?;
     }
     Ok(())

@@ -4,18 +4,18 @@
 ghost use Rattle.words.specs.Answer.{Answered};
 ghost use Rattle.census_text.specs.Text.{census_text};
 
-use words::Answer;
+use text::Writer;
+use words::NoRoom;
 
 // A line for each class: its name, and how many words it has under the conditions 1110 and 1111 and under the others.
-pub fn census_text(out: &mut [u8]) -> Answer
+pub fn census_text(out: &mut [u8]) -> Result<usize, NoRoom>
     ensures { Answered census_text 1534 out.old result out.new }
 {
     if out.len() < 1534 {
-        return Answer::NoRoom;
+        return Err(NoRoom);
     }
-    Answer::Text(text::put_bytes(
-        out,
-        0,
+    let mut writer = Writer::new(out);
+    writer.put_bytes(
         b"\
     ADC 3670016 51380224\n\
     ADD 3670016 51380224\n\
@@ -92,5 +92,6 @@ pub fn census_text(out: &mut [u8]) -> Answer
     ROR 385024 5390336\n\
     ILLEGAL 200671232 343146496\n\
 ",
-    ))
+    );
+    Ok(writer.at)
 }

@@ -1,10 +1,13 @@
 // What a decoder's answers are made of: the classes, the operands and the forms, and the number of each class.
 #![tactic(auto)]
 
-pub mod order;
+pub mod fields;
+
+ghost use Rattle.std.specs.Prelude.{◌≡◌};
+ghost use Rattle.classes.specs.Class.{class_no};
 
 // The manual's ARM instructions in the order of their printed names, then document 01's own names.
-#[derive(Clone, Copy)]
+#[derive(Clone, Copy, PartialEq, Eq)]
 pub enum Class {
     Adc,
     Add,
@@ -82,8 +85,18 @@ pub enum Class {
     Illegal,
 }
 
+// A class's place in the order of its declaration.
+impl From<Class> for u8 {
+    ghost from_gives = { λ class n. n ≡ class_no class };
+
+    #[tactic(auto, using(crate::proofs::Numbers::numbers))]
+    fn from(class: Class) -> u8 {
+        class as u8
+    }
+}
+
 // A shift as addressing mode 1 names it; `Rrx` is the encoding of ROR #0.
-#[derive(Clone, Copy)]
+#[derive(Clone, Copy, PartialEq, Eq)]
 pub enum ShiftOp {
     Lsl,
     Lsr,
@@ -93,7 +106,7 @@ pub enum ShiftOp {
 }
 
 // The second operand of data processing (addressing mode 1).
-#[derive(Clone, Copy)]
+#[derive(Clone, Copy, PartialEq, Eq)]
 pub enum Op2 {
     Imm(u32),
     ShiftImm { rm: u8, shift_op: ShiftOp, imm: u8 },
@@ -101,7 +114,7 @@ pub enum Op2 {
 }
 
 // The offset of a load or store of a word or byte (addressing mode 2).
-#[derive(Clone, Copy)]
+#[derive(Clone, Copy, PartialEq, Eq)]
 pub enum LdrStrOffset {
     Imm(i32),
     Reg {
@@ -113,7 +126,7 @@ pub enum LdrStrOffset {
 }
 
 // Its address: the offset is added before the access or after it. `Post` always writes its base back.
-#[derive(Clone, Copy)]
+#[derive(Clone, Copy, PartialEq, Eq)]
 pub enum AddrLdrStr {
     Pre {
         rn: u8,
@@ -127,7 +140,7 @@ pub enum AddrLdrStr {
 }
 
 // How a block transfer moves its base (addressing mode 4).
-#[derive(Clone, Copy)]
+#[derive(Clone, Copy, PartialEq, Eq)]
 pub enum LdmStmMode {
     Da,
     Ia,
@@ -136,7 +149,7 @@ pub enum LdmStmMode {
 }
 
 // What an instruction's operands are, as far as the registers that it reads and writes go.
-#[derive(Clone, Copy)]
+#[derive(Clone, Copy, PartialEq, Eq)]
 pub enum Form {
     Compute,
     Compare,

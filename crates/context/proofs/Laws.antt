@@ -1,17 +1,18 @@
 -- What the code of the blocks comes to: insertions, a block that puts no call, and one block after another.
 -- Assumes nothing.
-use Rattle.base.proofs.Prelude.{◌∙◌, sym, refl, ◌≡◌, ap, false, true, Bool, not, List, [], ◌∷◌, ℕ, arith, eqb, ltb, length, eq-eqb}
+use Rattle.base.proofs.Prelude.{◌∙◌, sym, refl, ◌≡◌, ap, false, true, Bool, List, [], ◌∷◌, ℕ, arith, eqb, ltb, length, eq-eqb}
 use Rattle.base.proofs.Prelude.{le-ltb}
+use Rattle.std.specs.Prelude.{Option, Some, None, Ok, Err}
 use Rattle.base.specs.Choice.{pick}
-use Rattle.base.specs.Refusals.{list_full}
+use Rattle.base.specs.declared.refusal.Refusal.TheVariants.{ListFull}
 use Rattle.rows.specs.Rows.{inserted}
 use Rattle.rows.proofs.RowLaws.{inserted-length}
 use Rattle.rows.specs.Map.{key_of, map_in, Held, fits, Entering}
-use Rattle.rows.specs.declared.Entered.{Entered}
+use Rattle.base.specs.declared.refusal.Refusal.{Refusal}
+use Rattle.base.specs.declared.refusal.Refusal.TheVariants.{ListFull}
 use Rattle.registers.specs.declared.Registers.{Registers}
 use Rattle.walk.specs.declared.Counts.{Counts}
-use Rattle.context.specs.declared.Put.{Put}
-use Rattle.context.specs.declared.Put.TheVariants.{Nothing, Call}
+use Rattle.context.specs.declared.NewCall.{NewCall}
 use Rattle.context.specs.declared.State.{State}
 use Rattle.context.specs.declared.Stepped.{Stepped}
 use Rattle.context.specs.declared.Then.{Then}
@@ -23,22 +24,31 @@ use Rattle.arm.specs.declared.Ins.{Ins}
 
 -- ---- insertions
 
-pub entering : {k n places : ℕ} {list row after : List ℕ} {e : Entered} (to : List (List ℕ) → Maps) (c : Context) → length list ≡ places
-    → Entering k n list row e after
-    → entered k places row (map_in k n list) to c ≡ pick e.full (refuses list_full 0) (on (with_maps (to (map_in k e.count after)) c))
-entering {k} {n} {places} {list} {row} {after} {e} to c long i =
-    step (fits k places (inserted key_of row (map_in k n list))) e.full
-    (i.says ∙ ap (λ (p : ℕ). not (fits k p (inserted key_of row (map_in k n list)))) long)
-    i.leaves
+-- an entry is refused for want of a place alone
+pub full-refusal : {k n : ℕ} {list row after : List ℕ} {refusal : Refusal} → Entering k n list row (Err refusal) after → refusal ≡ ListFull
+full-refusal {k} {n} {list} {row} {after} {refusal} i = step (fits k (length list) (inserted key_of row (map_in k n list))) i.says
   where
-    step : (b full : Bool) → full ≡ not b
-        → map_in k e.count after ≡ pick full (map_in k n list) (inserted key_of row (map_in k n list))
-        → pick b (on (with_maps (to (inserted key_of row (map_in k n list))) c)) (refuses list_full 0)
-        ≡ pick full (refuses list_full 0) (on (with_maps (to (map_in k e.count after)) c))
-    step true true q w = cc
-    step true false q w = ap (λ m. on (with_maps (to m) c)) (sym w)
-    step false true q w = refl
-    step false false q w = cc
+    step : (b : Bool) → Err refusal ≡ pick b (Ok n) (Err ListFull) → refusal ≡ ListFull
+    step true e = cc
+    step false e = cc
+
+module _ {k n places : ℕ} {list row after : List ℕ} (to : List (List ℕ) → Maps) (c : Context) (long : length list ≡ places) where
+  pub entered-in : {count : ℕ} → Entering k n list row (Ok count) after
+      → entered k places row (map_in k n list) to c ≡ on (with_maps (to (map_in k count after)) c)
+  entered-in {count} i = step (fits k (length list) (inserted key_of row (map_in k n list))) refl i.says
+    where
+      step : (b : Bool) → fits k (length list) (inserted key_of row (map_in k n list)) ≡ b → Ok count ≡ pick b (Ok count) (Err ListFull)
+          → entered k places row (map_in k n list) to c ≡ on (with_maps (to (map_in k count after)) c)
+      step true f e = rw (← long, f, i.leaves)
+      step false f e = cc
+
+  pub entered-full : {refusal : Refusal} → Entering k n list row (Err refusal) after → entered k places row (map_in k n list) to c ≡ refuses ListFull 0
+  entered-full {refusal} i = step (fits k (length list) (inserted key_of row (map_in k n list))) refl i.says
+    where
+      step : (b : Bool) → fits k (length list) (inserted key_of row (map_in k n list)) ≡ b → Err refusal ≡ pick b (Ok n) (Err ListFull)
+          → entered k places row (map_in k n list) to c ≡ refuses ListFull 0
+      step true f e = cc
+      step false f e = rw (← long, f)
 
 module _ {n : Counts} (l : World) {x : ℕ} {before after : List ℕ} where
   pub labels-held : Holds n (labels_in before l) → Held label_row x after → length after ≡ length before → Holds (count_labels x n) (labels_in after l)
@@ -112,7 +122,7 @@ never {A} {b} f t = absurd (step (sym f ∙ t))
     step : false ≡ true → ⊥
     step e = let z : ◌≡◌ {A = ℕ} 0 1 = cc in omega (arith, z)
 
-module _ {has : Bool} {a : ℕ} {k : Put} {r : Stepped} {l : World} {step : Step} where
+module _ {has : Bool} {a : ℕ} {k : Option NewCall} {r : Stepped} {l : World} {step : Step} where
   pub settled : Settles a k r l step → Comes has a k r l step
   settled w = record {
     stays = w.stays;
@@ -139,9 +149,9 @@ again a r q (b ∷ bs) = step (ltb (key_of b) a) (eqb (key_of b) a) refl refl (a
     step false true p e ih = rw (p, e, le-ltb a a (omega arith), eq-eqb a a refl)
     step false false p e ih = rw (p, e, le-ltb a a (omega arith), eq-eqb a a refl)
 
-put-over : (k : Put) (a : ℕ) (r : List ℕ) (m : List (List ℕ)) → inserted key_of (a ∷ r) (called k a m) ≡ inserted key_of (a ∷ r) m
-put-over Nothing a r m = refl
-put-over (Call w d mode) a r m = again a r (w ∷ d ∷ mode ∷ []) m
+put-over : (k : Option NewCall) (a : ℕ) (r : List ℕ) (m : List (List ℕ)) → inserted key_of (a ∷ r) (called k a m) ≡ inserted key_of (a ∷ r) m
+put-over None a r m = refl
+put-over (Some k) a r m = again a r (k.word ∷ k.destination ∷ k.mode ∷ []) m
 
 as_long : (a : ℕ) (r : List ℕ) (places : ℕ) (m : List (List ℕ)) → fits call_row places (inserted key_of (a ∷ r) m) ≡ fits call_row places (inserted key_of (a ∷ []) m)
 as_long a r places m = rw (inserted-length key_of (a ∷ r) m, inserted-length key_of (a ∷ []) m)
@@ -154,20 +164,20 @@ module _ (i : Ins) (s : State) (word mode : ℕ) (l : World) where
       ∙ ap (fits call_row l.given.places.calls) (put-over s.call s.progress.address [] l.calls)
 
   pub call-put : has_place s.progress.address l ≡ true
-      → call_to i word mode (context_of s l) ≡ on (context_of (putting (Call word i.target mode) s) l)
+      → call_to i word mode (context_of s l) ≡ on (context_of (putting (Some (record { word = word; destination = i.target; mode = mode })) s) l)
   call-put e = rw (room, e, put-over s.call s.progress.address (word ∷ i.target ∷ mode ∷ []) l.calls)
 
-  pub call-full : has_place s.progress.address l ≡ false → call_to i word mode (context_of s l) ≡ refuses list_full 0
+  pub call-full : has_place s.progress.address l ≡ false → call_to i word mode (context_of s l) ≡ refuses ListFull 0
   call-full e = rw (room, e)
 
   -- a call that is put is the source's call, or a refusal for want of a place
-  pub call-comes : {r : Stepped} → r ≡ record { then = On; state = putting (Call word i.target mode) s } → Holds s.counts l
+  pub call-comes : {r : Stepped} → r ≡ record { then = On; state = putting (Some (record { word = word; destination = i.target; mode = mode })) s } → Holds s.counts l
       → Comes (has_place s.progress.address l) s.progress.address s.call r l (call_to i word mode (context_of s l))
   call-comes e h = rw e (record { stays = refl; keeps = keeps s.call; holds = h; says = λ p. sym (call-put p); full = λ f t. call-full f })
     where
-      keeps : (k : Put) → has_place s.progress.address l ≡ true → placed (has_place s.progress.address l) k ≡ true
-      keeps Nothing p = refl
-      keeps (Call w d m) p = p
+      keeps : (k : Option NewCall) → has_place s.progress.address l ≡ true → placed (has_place s.progress.address l) k ≡ true
+      keeps None p = refl
+      keeps (Some k) p = p
 
 -- ---- one block after another
 
@@ -183,7 +193,7 @@ off-read Goes c f e = refl
 off-read (Ends a) c f e = refl
 off-read (Refuses n r) c f e = refl
 
-module _ {a : ℕ} {k : Put} {r : Stepped} {l : World} {step : Step} (f : Context → Step) where
+module _ {a : ℕ} {k : Option NewCall} {r : Stepped} {l : World} {step : Step} (f : Context → Step) where
   pub stop-settled : is_on r.then ≡ false → Settles a k r l step → Settles a k r l (step ▸ f)
   stop-settled e w = record {
     stays = w.stays;
@@ -201,7 +211,7 @@ module _ {a : ℕ} {k : Put} {r : Stepped} {l : World} {step : Step} (f : Contex
     says = v.says ∙ ap (λ (x : Step). x ▸ f) (sym (on_read r.then (context_of r.state l) e) ∙ w.says);
   }
 
-module _ {has : Bool} {a : ℕ} {k : Put} {r : Stepped} {l : World} {step : Step} (f : Context → Step) where
+module _ {has : Bool} {a : ℕ} {k : Option NewCall} {r : Stepped} {l : World} {step : Step} (f : Context → Step) where
   pub stop : is_on r.then ≡ false → Comes has a k r l step → Comes has a k r l (step ▸ f)
   stop e w = record {
     stays = w.stays;
@@ -224,6 +234,6 @@ module _ {has : Bool} {a : ℕ} {k : Put} {r : Stepped} {l : World} {step : Step
       goes_on : placed has r.state.call ≡ true → on (context_of r.state l) ≡ step
       goes_on p = sym (on_read r.then (context_of r.state l) e) ∙ w.says p
 
-      filled : (b : Bool) → placed has r.state.call ≡ b → placed has u.state.call ≡ false → placed has k ≡ true → (step ▸ f) ≡ refuses list_full 0
+      filled : (b : Bool) → placed has r.state.call ≡ b → placed has u.state.call ≡ false → placed has k ≡ true → (step ▸ f) ≡ refuses ListFull 0
       filled true p q t = ap (λ (x : Step). x ▸ f) (sym (goes_on p)) ∙ v.full q p
       filled false p q t = ap (λ (x : Step). x ▸ f) (w.full p t)

@@ -2,39 +2,29 @@
 -- and behind what it asks and does. `i` is the instruction, `size` its bytes, `inside` is in_conditional_block, `returns` is is_return.
 -- Assumes nothing.
 use Rattle.std.specs.Prelude.{Bool, true, false, not, List, [], ◌∷◌, ℕ, ◌+◌, eqb, ltb, leb, get_or}
+use Rattle.std.specs.Prelude.{Option as Optional, Some, None, Result, Ok, Err}
 use Rattle.std.proofs.Math.Option.{Option, none, some}
 use Rattle.analysis.specs.declared.illegal_code.IllegalCodeState.{IllegalCodeState}
 use Rattle.analysis.specs.declared.illegal_code.IllegalCodeState.TheVariants.{Start, ShiftedRegisterValue, Illegal}
-use Rattle.analysis.specs.declared.inline_table.InlineTableAnswer.{InlineTableAnswer}
-use Rattle.analysis.specs.declared.inline_table.InlineTableAnswer.TheVariants.{Next as T-Next, Refused as T-Refused}
-use Rattle.analysis.specs.declared.inline_table.FoundTable.{FoundTable}
-use Rattle.analysis.specs.declared.inline_table.FoundTable.TheVariants.{Table, Nothing as No-Table}
-use Rattle.analysis.specs.declared.jump_table.JumpTableAnswer.{JumpTableAnswer}
-use Rattle.analysis.specs.declared.jump_table.JumpTableAnswer.TheVariants.{Next as J-Next, Found as J-Found, Refused as J-Refused}
-use Rattle.analysis.specs.declared.jump_table.TableEnd.{TableEnd}
-use Rattle.analysis.specs.declared.jump_table.TableEnd.TheVariants.{At as E-At, Nothing as E-Nothing, Refused as E-Refused}
+use Rattle.analysis.specs.declared.inline_table.InlineTable.{InlineTable}
+use Rattle.analysis.specs.declared.inline_table.InlineTableState.{InlineTableState}
 use Rattle.analysis.specs.IllegalCode.{illegal_code as code_machine}
 use Rattle.analysis.specs.FunctionBranch.{function_branch, is_function_branch}
 use Rattle.analysis.specs.InlineTable.{inline_table as inline_machine, table_of}
-use Rattle.analysis.specs.JumpTable.{jump_table as jump_machine, table_end}
+use Rattle.analysis.specs.JumpTable.{Answer, jump_table as jump_machine, table_end}
 use Rattle.arm.specs.declared.Ins.{Ins}
 use Rattle.arm.specs.Ins.{decode_of, is_conditional}
-use Rattle.base.specs.declared.word.Word.{Word}
-use Rattle.base.specs.declared.word.Word.TheVariants.{Found as W-Found, Missing}
 use Rattle.base.specs.Choice.{pick, both, either}
-use Rattle.base.specs.Refusals.{branch_outside as outside, pool_outside, undefined_register as undefined, beyond32_bits}
+use Rattle.base.specs.declared.refusal.Refusal.{Refusal}
+use Rattle.base.specs.declared.refusal.Refusal.TheVariants.{BranchOutside, PoolOutside, UndefinedRegister, Beyond32Bits}
 use Rattle.base.specs.Words.{word_from}
-use Rattle.predicates.specs.declared.Callee.{Callee}
-use Rattle.predicates.specs.declared.Callee.TheVariants.{Nothing as No-Call, Arm, Thumb}
+use Rattle.predicates.specs.declared.Mode.{Mode}
+use Rattle.predicates.specs.declared.Mode.TheVariants.{Arm, Thumb}
 use Rattle.predicates.specs.Predicates.{is_branch, is_bx, is_return, is_entry_instruction, is_pool_load, pool_address, called_by, as_previous}
 use Rattle.registers.specs.Registers.{forgotten, holding, source_of}
 use Rattle.rows.specs.Rows.{rank, stands, inserted}
 use Rattle.rows.specs.Map.{key_of, stands-in, at_or_above}
 use Rattle.rows.specs.Run.{gap_from}
-use Rattle.rows.specs.declared.Found.{Found}
-use Rattle.rows.specs.declared.Found.TheVariants.{At as F-At, Missing as F-Missing}
-use Rattle.rows.specs.declared.Gap.{Gap}
-use Rattle.rows.specs.declared.Gap.TheVariants.{At as G-At, Beyond as G-Beyond}
 use Rattle.walk.specs.Checking.{undefined_register, defined_after}
 use Rattle.context.specs.Context.{Context, Step, on, goes, ends, refuses, ◌▸◌, going_to, with_progress, with_machines, with_registers, with_maps}
 use Rattle.context.specs.Context.{raising, table_to, pool_to, defining, moving, jump_table_to, function_branch_to, inline_table_to, illegal_code_to, pools_to}
@@ -78,7 +68,7 @@ inline_table_at a (t ∷ ts) = pick (is_within a t) (some t) (inline_table_at a 
 -- if let Some(inline_table) = ..; an end that leaves 32 bits is refused
 abbrev pub skips_to : Option (List ℕ) → Context → Step
 skips_to none c = on c
-skips_to (some table) c = pick (ltb (table_end_at table) 0x1_0000_0000) (goes (going_to (table_end_at table) c)) (refuses beyond32_bits 0)
+skips_to (some table) c = pick (ltb (table_end_at table) 0x1_0000_0000) (goes (going_to (table_end_at table) c)) (refuses Beyond32Bits 0)
 
 unfoldable pub skip_inline_table : Context → Step
 skip_inline_table c = skips_to (inline_table_at c.progress.address c.maps.inline_tables) c
@@ -86,18 +76,18 @@ skip_inline_table c = skips_to (inline_table_at c.progress.address c.maps.inline
 -- ---- the jump table
 
 -- if let Some(table_end_address) = self.jump_table_state.table_end_address()
-abbrev pub raised_to_table : TableEnd → Context → Step
-raised_to_table (E-At end) c = on (with_progress (table_to end (raising end c.progress)) c)
-raised_to_table E-Nothing c = on c
-raised_to_table E-Refused c = refuses beyond32_bits 0
+abbrev pub raised_to_table : Result (Optional ℕ) Refusal → Context → Step
+raised_to_table (Ok (Some end)) c = on (with_progress (table_to end (raising end c.progress)) c)
+raised_to_table (Ok None) c = on c
+raised_to_table (Err refusal) c = refuses refusal 0
 
 module _ (i : Ins) where
   -- self.jump_table_state = self.jump_table_state.handle(..)
-  abbrev pub after_jump : JumpTableAnswer → Context → Step
-  after_jump (J-Next s) c = raised_to_table (table_end s) (with_machines (jump_table_to s c.machines) c)
-  after_jump (J-Found s t) c =
+  abbrev pub after_jump : Answer → Context → Step
+  after_jump (Ok (s, None)) c = raised_to_table (table_end s) (with_machines (jump_table_to s c.machines) c)
+  after_jump (Ok (s, Some t)) c =
       enter_jump_table (t.address ∷ t.size ∷ []) (with_machines (jump_table_to s c.machines) c) ▸ raised_to_table (table_end s)
-  after_jump J-Refused c = refuses beyond32_bits 0
+  after_jump (Err refusal) c = refuses refusal 0
 
   unfoldable pub jump_table : Context → Step
   jump_table c = after_jump (jump_machine c.machines.jump_table c.progress.address i) c
@@ -123,7 +113,7 @@ module _ (i : Ins) where
 
   -- if !(0x01ff8000..0x03000000).contains(&destination)
   unfoldable pub branch_outside : Context → Step
-  branch_outside c = pick (both (is_branch i) (not (is_in 0x01FF_8000 0x0300_0000 i.target))) (refuses outside 0) (on c)
+  branch_outside c = pick (both (is_branch i) (not (is_in 0x01FF_8000 0x0300_0000 i.target))) (refuses BranchOutside 0) (on c)
 
 -- ---- the registers
 
@@ -159,9 +149,9 @@ is_destination a [] = false
 is_destination a (r ∷ rs) = pick (eqb (get_or r 2 0) a) true (is_destination a rs)
 
 -- is_entry_instruction_at
-abbrev pub is_entry_word : Word → ℕ → Bool
-is_entry_word (W-Found w) a = is_entry_instruction (decode_of w a)
-is_entry_word Missing a = false
+abbrev pub is_entry_word : Optional ℕ → ℕ → Bool
+is_entry_word (Some w) a = is_entry_instruction (decode_of w a)
+is_entry_word None a = false
 
 unfoldable pub is_entry_at : List ℕ → ℕ → ℕ → Bool
 is_entry_at code base a = is_entry_word (word_from code base a) a
@@ -212,15 +202,15 @@ module _ (i : Ins) where
   label_raised inside c = pick (raises_label inside c) (with_progress (raising i.target c.progress) c) c
 
 -- (next_address..).step_by(4).find(..); pools that run to the end of 32 bits are none that the checks before a step let pass
-abbrev pub past_gap : Gap → Context → Step
-past_gap (G-At after) c = on (going_to after c)
-past_gap G-Beyond c = refuses beyond32_bits 0
+abbrev pub past_gap : Optional ℕ → Context → Step
+past_gap (Some after) c = on (going_to after c)
+past_gap None c = refuses Beyond32Bits 0
 
 module _ (i : Ins) where
   -- self.labels.range(parser.pc()..).next(); else if !branch_backwards; else
-  abbrev pub to_label : ℕ → Found → Context → Step
-  to_label size (F-At k) c = on (going_to (key_of (get_or c.maps.labels k [])) c)
-  to_label size F-Missing c =
+  abbrev pub to_label : ℕ → Optional ℕ → Context → Step
+  to_label size (Some k) c = on (going_to (key_of (get_or c.maps.labels k [])) c)
+  to_label size None c =
       pick (ltb c.progress.address i.target)
       (ends (c.progress.address + size) c)
       (past_gap (gap_from (stands-in c.maps.pools) (c.progress.address + size)) c)
@@ -261,9 +251,9 @@ module _ (i : Ins) where
 
 module _ (i : Ins) where
   -- register_values[register] = ..; pool_constants.insert(..); last_pool_address = ..
-  abbrev pub loaded : ℕ → Word → Context → Step
-  loaded a Missing c = refuses pool_outside 0
-  loaded a (W-Found value) c =
+  abbrev pub loaded : ℕ → Optional ℕ → Context → Step
+  loaded a None c = refuses PoolOutside 0
+  loaded a (Some value) c =
       enter_pool (a ∷ value ∷ other ∷ []) (with_registers (holding c.registers i.rd value a) c)
       ▸ (λ c. on (with_progress (pool_to a c.progress) c))
 
@@ -277,15 +267,15 @@ module _ (i : Ins) where
 -- ---- the inline table
 
 -- if let Some(table) = self.inline_table_state.get_table()
-abbrev pub tabled : FoundTable → Context → Step
-tabled (Table t) c = enter_inline_table (t.address ∷ t.size ∷ []) c
-tabled No-Table c = on c
+abbrev pub tabled : Optional InlineTable → Context → Step
+tabled (Some t) c = enter_inline_table (t.address ∷ t.size ∷ []) c
+tabled None c = on c
 
 module _ (i : Ins) where
   -- self.inline_table_state = self.inline_table_state.handle(..)
-  abbrev pub after_inline : InlineTableAnswer → Context → Step
-  after_inline (T-Next s) c = tabled (table_of s) (with_machines (inline_table_to s c.machines) c)
-  after_inline T-Refused c = refuses beyond32_bits 0
+  abbrev pub after_inline : Result InlineTableState Refusal → Context → Step
+  after_inline (Ok s) c = tabled (table_of s) (with_machines (inline_table_to s c.machines) c)
+  after_inline (Err refusal) c = refuses refusal 0
 
   unfoldable pub inline_table : Context → Step
   inline_table c = after_inline (inline_machine c.machines.inline_table false c.progress.address i) c
@@ -294,10 +284,10 @@ module _ (i : Ins) where
 
 module _ (i : Ins) where
   -- if let Some(called_function) = Function::is_function_call(..)
-  abbrev pub called_as : ℕ → Callee → Context → Step
-  called_as word No-Call c = on c
-  called_as word Arm c = call_to i word arm c
-  called_as word Thumb c = call_to i word thumb c
+  abbrev pub called_as : ℕ → Optional Mode → Context → Step
+  called_as word None c = on c
+  called_as word (Some Arm) c = call_to i word arm c
+  called_as word (Some Thumb) c = call_to i word thumb c
 
   unfoldable pub function_call : ℕ → Context → Step
   function_call word c = called_as word (called_by i) c
@@ -305,7 +295,7 @@ module _ (i : Ins) where
   -- if self.check_defs_uses && !Self::is_nop(ins)
   abbrev pub checked_by : ℕ → Bool → Context → Step
   checked_by register returns c =
-      pick (ltb register 16) (refuses undefined register)
+      pick (ltb register 16) (refuses UndefinedRegister register)
       (on (with_progress (defining (defined_after c.given.options.check c.progress.defined_registers i returns) c.progress) c))
 
   unfoldable pub check_defined : Bool → Context → Step

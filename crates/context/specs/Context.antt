@@ -6,7 +6,8 @@ use Rattle.analysis.specs.declared.function_branch.FunctionBranchState.{Function
 use Rattle.analysis.specs.declared.inline_table.InlineTableState.{InlineTableState}
 use Rattle.analysis.specs.declared.jump_table.JumpTableStateArm.{JumpTableStateArm}
 use Rattle.base.specs.Choice.{pick}
-use Rattle.base.specs.Refusals.{list_full}
+use Rattle.base.specs.declared.refusal.Refusal.{Refusal}
+use Rattle.base.specs.declared.refusal.Refusal.TheVariants.{ListFull}
 use Rattle.predicates.specs.declared.Previous.{Previous}
 use Rattle.registers.specs.declared.Registers.{Registers}
 use Rattle.rows.specs.Rows.{inserted}
@@ -53,13 +54,13 @@ pub record Context : Type 0 where
   pub registers : Registers
   pub maps : Maps
 
--- what a block comes to: on to the next block; ParseFunctionState::Continue; Done, with end_address; or a refusal, by its number, and the
--- register that 11 carries
+-- what a block comes to: on to the next block; ParseFunctionState::Continue; Done, with end_address; or a refusal, and the register that an
+-- undefined one carries
 pub data Step : Type 0 where
   on : Context → Step
   goes : Context → Step
   ends : ℕ → Context → Step
-  refuses : ℕ → ℕ → Step
+  refuses : Refusal → ℕ → Step
 
 infixl 20 ◌▸◌
 -- the next block, unless the step has come to something
@@ -142,7 +143,7 @@ calls_to x m = record { labels = m.labels; pools = m.pools; jump_tables = m.jump
 
 -- an insertion: a map that does not fit the places of its list is refused
 abbrev pub entered : ℕ → ℕ → List ℕ → List (List ℕ) → (List (List ℕ) → Maps) → Context → Step
-entered stride places row m to c = pick (fits stride places (inserted key_of row m)) (on (with_maps (to (inserted key_of row m)) c)) (refuses list_full 0)
+entered stride places row m to c = pick (fits stride places (inserted key_of row m)) (on (with_maps (to (inserted key_of row m)) c)) (refuses ListFull 0)
 
 abbrev pub enter_label : List ℕ → Context → Step
 enter_label row c = entered label_row c.given.places.labels row c.maps.labels (λ m. labels_to m c.maps) c

@@ -1,9 +1,9 @@
 -- What the code's state and the lent slices mean, and what a block's code promises.
 -- Assumes nothing.
-use Rattle.std.specs.Prelude.{◌≡◌, Bool, true, false, not, List, [], ◌∷◌, ℕ, ◌+◌, ltb, length}
+use Rattle.std.specs.Prelude.{◌≡◌, Option, Some, None, Bool, true, false, not, List, [], ◌∷◌, ℕ, ◌+◌, ltb, length}
 use Rattle.arm.specs.declared.Ins.{Ins}
 use Rattle.base.specs.Choice.{pick, both}
-use Rattle.base.specs.Refusals.{list_full}
+use Rattle.base.specs.declared.refusal.Refusal.TheVariants.{ListFull}
 use Rattle.predicates.specs.Predicates.{as_previous}
 use Rattle.registers.specs.declared.Registers.{Registers}
 use Rattle.registers.specs.Registers.{forgotten, holding}
@@ -14,9 +14,7 @@ use Rattle.walk.specs.declared.Machines.{Machines}
 use Rattle.walk.specs.declared.Options.{Options}
 use Rattle.walk.specs.declared.Progress.{Progress}
 use Rattle.context.specs.declared.Load.{Load}
-use Rattle.context.specs.declared.Load.TheVariants.{Nothing as L-Nothing, Word as L-Word}
-use Rattle.context.specs.declared.Put.{Put}
-use Rattle.context.specs.declared.Put.TheVariants.{Nothing, Call}
+use Rattle.context.specs.declared.NewCall.{NewCall}
 use Rattle.context.specs.declared.State.{State}
 use Rattle.context.specs.declared.Stepped.{Stepped}
 use Rattle.context.specs.declared.Then.{Then}
@@ -38,7 +36,7 @@ machined m s = record { next = s.next; progress = s.progress; machines = m; coun
 abbrev pub counted : Counts → State → State
 counted n s = record { next = s.next; progress = s.progress; machines = s.machines; counts = n; call = s.call }
 
-abbrev pub putting : Put → State → State
+abbrev pub putting : Option NewCall → State → State
 putting k s = record { next = s.next; progress = s.progress; machines = s.machines; counts = s.counts; call = k }
 
 abbrev pub count_labels : ℕ → Counts → Counts
@@ -107,9 +105,9 @@ pub record Holds (n : Counts) (l : World) : Type 0 where
   pub inline_table_places : length l.inline_tables ≡ l.given.places.inline_tables
 
 -- the call that is to be put is in the map
-abbrev pub called : Put → ℕ → List (List ℕ) → List (List ℕ)
-called Nothing a m = m
-called (Call w d mode) a m = inserted key_of (a ∷ w ∷ d ∷ mode ∷ []) m
+abbrev pub called : Option NewCall → ℕ → List (List ℕ) → List (List ℕ)
+called None a m = m
+called (Some k) a m = inserted key_of (a ∷ k.word ∷ k.destination ∷ k.mode ∷ []) m
 
 abbrev pub context_of : State → World → Context
 context_of s l = record {
@@ -152,11 +150,11 @@ abbrev pub passes : Ins → Stepped → Stepped
 passes i r = passes_as r.then i r.state
 
 -- the registers once a pool word is loaded
-abbrev pub loaded_by : Load → Registers → Registers
-loaded_by L-Nothing h = h
-loaded_by (L-Word register value a) h = holding h register value a
+abbrev pub loaded_by : Option Load → Registers → Registers
+loaded_by None h = h
+loaded_by (Some x) h = holding h x.register x.value x.address
 
-abbrev pub loaded_in : Load → World → World
+abbrev pub loaded_in : Option Load → World → World
 loaded_in x l = registers_in (loaded_by x l.registers) l
 
 -- the registers without those that an instruction writes, where the blocks so far went on; else as they were
@@ -168,12 +166,12 @@ abbrev pub has_place : ℕ → World → Bool
 has_place a l = fits call_row l.given.places.calls (inserted key_of (a ∷ []) l.calls)
 
 -- what is put has its place
-abbrev pub placed : Bool → Put → Bool
-placed has Nothing = true
-placed has (Call w d mode) = has
+abbrev pub placed : Bool → Option NewCall → Bool
+placed has None = true
+placed has (Some k) = has
 
 -- a block's code came to a step, and put no call: the address and the call stay, the slices hold maps, and what it hands back means the step
-pub record Settles (a : ℕ) (k : Put) (r : Stepped) (l : World) (step : Step) : Type 0 where
+pub record Settles (a : ℕ) (k : Option NewCall) (r : Stepped) (l : World) (step : Step) : Type 0 where
   pub stays : r.state.progress.address ≡ a
   pub call : r.state.call ≡ k
   pub holds : Holds r.state.counts l
@@ -181,12 +179,12 @@ pub record Settles (a : ℕ) (k : Put) (r : Stepped) (l : World) (step : Step) :
 
 -- the same where it may have put a call. That is put in its list behind the blocks: where it has no place, the step is a refusal, whatever
 -- the code went on to
-pub record Comes (has : Bool) (a : ℕ) (k : Put) (r : Stepped) (l : World) (step : Step) : Type 0 where
+pub record Comes (has : Bool) (a : ℕ) (k : Option NewCall) (r : Stepped) (l : World) (step : Step) : Type 0 where
   pub stays : r.state.progress.address ≡ a
   pub keeps : placed has r.state.call ≡ true → placed has k ≡ true
   pub holds : Holds r.state.counts l
   pub says : placed has r.state.call ≡ true → read r.then (context_of r.state l) ≡ step
-  pub full : placed has r.state.call ≡ false → placed has k ≡ true → step ≡ refuses list_full 0
+  pub full : placed has r.state.call ≡ false → placed has k ≡ true → step ≡ refuses ListFull 0
 
 -- what a block does, whatever stands in the slices, options, code and registers that it does not see
 abbrev pub Does : (World → World) → (World → World) → (Context → Step) → State → Stepped → Type 0

@@ -3,13 +3,10 @@
 -- Assumes nothing.
 use Rattle.std.specs.Prelude.{[], ℕ, length}
 use Rattle.arm.specs.Ins.{decode_of}
-use Rattle.base.specs.declared.word.Word.{Word}
-use Rattle.base.specs.declared.word.Word.TheVariants.{Found, Missing}
-use Rattle.base.specs.Refusals.{no_epilogue}
+use Rattle.std.specs.Prelude.{Option, Some, None}
+use Rattle.base.specs.declared.refusal.Refusal.TheVariants.{NoEpilogue}
 use Rattle.base.specs.Words.{word_from}
 use Rattle.rows.specs.Map.{first_key}
-use Rattle.rows.specs.declared.Key.{Key}
-use Rattle.rows.specs.declared.Key.TheVariants.{Address, Nothing}
 use Rattle.walk.specs.declared.Answer.{Answer}
 use Rattle.walk.specs.declared.Answer.TheVariants.{Going, Accepted, Refused}
 use Rattle.walk.specs.declared.Counts.{Counts}
@@ -52,9 +49,9 @@ closed (Accepted r) c = walk_of (Accepted r) c
 closed (Refused n a r) c = walk_of (Refused n a r) (emptied c)
 
 -- a key's address, 0 where there is none
-abbrev pub key_or0 : Key → ℕ
-key_or0 (Address a) = a
-key_or0 Nothing = 0
+abbrev pub key_or0 : Option ℕ → ℕ
+key_or0 (Some a) = a
+key_or0 None = 0
 
 -- into_function, from a last instruction's end
 abbrev pub function_of : ℕ → Context → Answer
@@ -78,9 +75,9 @@ settled before (goes c) = walk_of Going c
 settled before (ends end c) = closed (function_of end c) (ending_at end c)
 settled before (refuses n r) = closed (Refused n before.progress.address r) before
 
-abbrev pub turn_at : Word → Context → Turned
-turn_at (Found word) c = settled c (handle_ins (decode_of word c.progress.address) word arm_size c)
-turn_at Missing c = closed (Refused no_epilogue 0 0) c
+abbrev pub turn_at : Option ℕ → Context → Turned
+turn_at (Some word) c = settled c (handle_ins (decode_of word c.progress.address) word arm_size c)
+turn_at None c = closed (Refused NoEpilogue 0 0) c
 
 unfoldable pub turn : Given → Walk → Maps → Turned
 turn g w m = turn_at (word_from g.code g.options.base w.progress.address) (context_at g w m)

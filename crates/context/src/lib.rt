@@ -12,6 +12,7 @@ ghost use Rattle.context.specs.Blocks.{is_in, call_to};
 ghost use Rattle.context.specs.State.{is_on, loaded_by, Puts, same, asks_calls, passes};
 
 use arm::Ins;
+use base::refusal::Refusal;
 use registers::Registers;
 use walk::{Counts, Machines, Progress};
 
@@ -27,13 +28,10 @@ pub const CALL_ROW: usize = 4;
 
 // The call from the walk's address that a step is to put in the list of calls.
 #[derive(Clone, Copy)]
-pub enum Put {
-    Nothing,
-    Call {
-        word: u32,
-        destination: u32,
-        mode: u32,
-    },
+pub struct NewCall {
+    pub word: u32,
+    pub destination: u32,
+    pub mode: u32,
 }
 
 // `next` is the parser's address, where the walk goes on. The walk's registers stand beside the state, not in it: a block that touches none of
@@ -44,18 +42,15 @@ pub struct State {
     pub progress: Progress,
     pub machines: Machines,
     pub counts: Counts,
-    pub call: Put,
+    pub call: Option<NewCall>,
 }
 
 // The pool word that a step is to put in a register.
 #[derive(Clone, Copy)]
-pub enum Load {
-    Nothing,
-    Word {
-        register: u8,
-        value: u32,
-        address: u32,
-    },
+pub struct Load {
+    pub register: u8,
+    pub value: u32,
+    pub address: u32,
 }
 
 // What a block comes to: on to the next block, on at the next instruction, the last instruction ended, or a refusal.
@@ -64,7 +59,7 @@ pub enum Then {
     On,
     Goes,
     Ends(u32),
-    Refuses { number: u8, register: u8 },
+    Refuses { refusal: Refusal, register: u8 },
 }
 
 #[derive(Clone, Copy)]
@@ -77,7 +72,7 @@ pub struct Stepped {
 #[derive(Clone, Copy)]
 pub struct Loaded {
     pub stepped: Stepped,
-    pub load: Load,
+    pub load: Option<Load>,
 }
 
 // A step, with the registers after it.
@@ -90,52 +85,34 @@ pub struct Handled {
 pub fn is_on(r: Stepped) -> bool
     ensures { result ≡ is_on r.then }
 {
-    let then = r.then;
-    match then {
-        Then::On => true,
-        Then::Goes => false,
-        Then::Ends(_) => false,
-        Then::Refuses {
-            number: _,
-            register: _,
-        } => false,
-    }
+    matches!(r.then, Then::On)
 }
 
-// (from..to).contains(&address)
+#[tactic(auto, using(std::proofs::lemmas::Bool::Decides::nat_tests), unfolding(crate::specs::Blocks::is_in))]
 pub fn is_in(from: u32, to: u32, address: u32) -> bool
     ensures { result ≡ is_in from to address }
 {
-    if address < from {
-        return false;
-    }
-    address < to
+    (from..to).contains(&address)
 }
 
 // The call from this address. Whether it has a place is asked behind the blocks.
 pub fn call_to(s: State, word: u32, ins: Ins, mode: u32) -> Stepped
     ensures { Puts same same (call_to ins word mode) s result }
 {
-    assign::on(assign::with_call(
-        s,
-        Put::Call {
-            word,
-            destination: ins.target,
-            mode,
-        },
-    ))
+    let call = NewCall {
+        word,
+        destination: ins.target,
+        mode,
+    };
+    assign::on(assign::with_call(s, Some(call)))
 }
 
-pub fn load_into(registers: Registers, load: Load) -> Registers
+pub fn load_into(registers: Registers, load: Option<Load>) -> Registers
     ensures { result ≡ loaded_by load registers }
 {
     match load {
-        Load::Nothing => registers,
-        Load::Word {
-            register,
-            value,
-            address,
-        } => registers::hold(registers, register, value, address),
+        Some(load) => registers.hold(load.register, load.value, load.address),
+        None => registers,
     }
 }
 
@@ -146,31 +123,20 @@ pub fn in_conditional_block(s: State) -> bool
 }
 
 // A return asks the calls only where a pool lies further on.
+#[tactic(auto, unfolding(crate::specs::State::asks_calls))]
 pub fn asks_calls(s: State, size: u32, inside: bool, returns: bool) -> bool
     requires { s.progress.address + size < 2 ^ 32 }
     ensures { result ≡ asks_calls size inside returns s.progress }
 {
-    if inside {
-        return false;
-    }
-    if !returns {
-        return false;
-    }
-    s.progress.address + size < s.progress.last_pool_address
+    !inside && returns && s.progress.address + size < s.progress.last_pool_address
 }
 
 // handle_ins: the instruction becomes the previous one, and the walk goes on at the parser's address.
 pub fn pass(r: Stepped, ins: Ins) -> Stepped
     ensures { result ≡ passes ins r }
 {
-    let then = r.then;
-    match then {
-        Then::On => assign::go(assign::move_on(r.state, predicates::as_previous(ins))),
-        Then::Goes => assign::go(assign::move_on(r.state, predicates::as_previous(ins))),
-        Then::Ends(_) => r,
-        Then::Refuses {
-            number: _,
-            register: _,
-        } => r,
+    match r.then {
+        Then::On | Then::Goes => assign::go(assign::move_on(r.state, predicates::as_previous(ins))),
+        Then::Ends(_) | Then::Refuses { .. } => r,
     }
 }

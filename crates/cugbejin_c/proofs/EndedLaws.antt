@@ -3,6 +3,7 @@
 use Rattle.base.proofs.Prelude.{◌∙◌, refl, ◌≡◌, true, false, Bool, List, ℕ, arith, leb}
 use Rattle.answers.specs.Answers.{number_of}
 use Rattle.base.specs.Choice.{pick}
+use Rattle.base.specs.Refusals.{refusal_no}
 use Rattle.context.specs.Lists.{Lists}
 use Rattle.context.specs.Turn.{no_maps, counts_of}
 use Rattle.stepper.specs.Stepper.{After}
@@ -32,7 +33,7 @@ module _ (o : Options) (start : ℕ) (code starts : List ℕ) (l : Lists) where
       go : (a : Answer) → EndedBy none l all a → number_of a ≡ 0 → a ≡ Accepted (record_of a)
       go Going h e = absurd h
       go (Accepted r) h e = refl
-      go (Refused number address register) h e = absurd (omega (arith, e, h.least))
+      go (Refused refusal address register) h e = absurd (omega (arith, e, h.least))
 
   pub refused-empty : (number_of all.answer ≡ 0 → ⊥) → all.walk.counts ≡ none
   refused-empty = go all.answer (ended o start code starts none l)
@@ -40,4 +41,4 @@ module _ (o : Options) (start : ℕ) (code starts : List ℕ) (l : Lists) where
       go : (a : Answer) → EndedBy none l all a → (number_of a ≡ 0 → ⊥) → all.walk.counts ≡ none
       go Going h some = absurd h
       go (Accepted r) h some = absurd (some refl)
-      go (Refused number address register) h some = h.counted ∙ either-none (leb number 4)
+      go (Refused refusal address register) h some = h.counted ∙ either-none (leb (refusal_no refusal) 4)

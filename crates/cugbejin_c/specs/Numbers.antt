@@ -8,14 +8,13 @@ use Rattle.stepper.specs.Stepper.{After}
 use Rattle.walk.specs.declared.Answer.{Answer}
 use Rattle.walk.specs.declared.Answer.TheVariants.{Going, Accepted, Refused}
 use Rattle.walk.specs.declared.Counts.{Counts}
-use Rattle.walk.specs.declared.KnownEnd.{KnownEnd}
-use Rattle.walk.specs.declared.KnownEnd.TheVariants.{Nothing, At}
+use Rattle.std.specs.Prelude.{Option, Some, None}
 use Rattle.walk.specs.declared.Options.{Options}
 use Rattle.walk.specs.declared.Record.{Record}
 
 -- no known end where `known` is 0
-abbrev pub known_from : ℕ → ℕ → KnownEnd
-known_from known end = pick (eqb known 0) Nothing (At end)
+abbrev pub known_from : ℕ → ℕ → Option ℕ
+known_from known end = pick (eqb known 0) None (Some end)
 
 abbrev pub options_from : ℕ → ℕ → ℕ → ℕ → ℕ → ℕ → Options
 options_from base start end known known_end check = record {

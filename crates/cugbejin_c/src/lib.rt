@@ -9,15 +9,15 @@ ghost use Rattle.whole.specs.Whole.{run};
 ghost use Rattle.cugbejin_c.specs.Numbers.{known_from, options_from, no_record, record_of, numbers_of, AnsweredIn};
 
 use outcome::no_counts;
-use walk::{Answer, Counts, KnownEnd, Options, Record};
+use walk::{Answer, Counts, Options, Record};
 
-fn known_from(known: u32, end: u32) -> KnownEnd
+fn known_from(known: u32, end: u32) -> Option<u32>
     ensures { result ≡ known_from known end }
 {
     if known == 0 {
-        return KnownEnd::Nothing;
+        return None;
     }
-    KnownEnd::At(end)
+    Some(end)
 }
 
 fn options_from(base: u32, start: u32, end: u32, known: u32, known_end: u32, check: u32) -> Options
@@ -51,7 +51,7 @@ fn record_of(answer: Answer) -> Record
         Answer::Going => no_record(),
         Answer::Accepted(found) => found,
         Answer::Refused {
-            number: _,
+            refusal: _,
             address: _,
             register: _,
         } => no_record(),

@@ -2,3 +2,4 @@
 pub mod Reduce
 pub mod Sweep
 pub mod Alike
+pub mod Table

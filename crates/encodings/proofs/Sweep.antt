@@ -116,12 +116,18 @@ Region = ℕ → ℕ → ℕ → List Bound
 abbrev is : Class → Bool → Class → Bool
 is k t c = elim t [ true ↦ eqb (class_no c) (class_no k) | false ↦ true ]
 
-abbrev rows : Region → Class → ℕ → List Encoding → List Encoding → Bool
-rows r k op es us = every 2 0 (λ odd. every 16 0 (λ low. is k (inside (r op odd low)) (narrowed es us (rest odd low))))
+abbrev rows : Region → (ℕ → ℕ → Class) → ℕ → List Encoding → List Encoding → Bool
+rows r f op es us = every 2 0 (λ odd. every 16 0 (λ low. is (f odd low) (inside (r op odd low)) (narrowed es us (rest odd low))))
 
-unfoldable pub passes : ℕ → ℕ → ℕ → Region → Class → Bool
+-- the encodings have the classes of a table at the fields of a region
+unfoldable pub agrees : ℕ → ℕ → ℕ → Region → (ℕ → ℕ → ℕ → Class) → Bool
 unfolding bits encodings undefineds fitting first_or fits class_no Diagram.cond Diagram.uncond
-passes nv a n r k = every n a (λ op. rows r k op (steps (nv ∷ bits 8 op) encodings) (steps (nv ∷ bits 8 op) undefineds))
+agrees nv a n r f = every n a (λ op. rows r (f op) op (steps (nv ∷ bits 8 op) encodings) (steps (nv ∷ bits 8 op) undefineds))
+
+-- they have one class there
+unfoldable pub passes : ℕ → ℕ → ℕ → Region → Class → Bool
+unfolding agrees
+passes nv a n r k = agrees nv a n r (λ op odd low. k)
 
 -- what a region asks of the fields
 abbrev pub In : ℕ → ℕ → Region → ℕ → ℕ → ℕ → Type 0
@@ -132,17 +138,21 @@ unfolding encoding_at encoding_on view_at
 narrowed-view nv op odd low =
     rw (steps-fit (nv ∷ bits 8 op) (rest odd low) encodings, steps-fit (nv ∷ bits 8 op) (rest odd low) undefineds)
 
-pub region : (nv a n : ℕ) (r : Region) (k : Class) → T (passes nv a n r k) → (op odd low : ℕ) → In a n r op odd low → encoding_at nv op odd low ≡ k
-unfolding passes
-region nv a n r k t op odd low h =
+pub tabled : (nv a n : ℕ) (r : Region) (f : ℕ → ℕ → ℕ → Class) → T (agrees nv a n r f) → (op odd low : ℕ) → In a n r op odd low → encoding_at nv op odd low ≡ f op odd low
+unfolding agrees
+tabled nv a n r f t op odd low h =
     let es = steps (nv ∷ bits 8 op) encodings in
     let us = steps (nv ∷ bits 8 op) undefineds in
-    let row = every-at n a (λ op. rows r k op (steps (nv ∷ bits 8 op) encodings) (steps (nv ∷ bits 8 op) undefineds)) t op h.0 h.1.0 in
-    let col = every-at 2 0 (λ odd. every 16 0 (λ low. is k (inside (r op odd low)) (narrowed es us (rest odd low)))) row odd (omega arith) (omega arith) in
-    let cell = every-at 16 0 (λ low. is k (inside (r op odd low)) (narrowed es us (rest odd low))) col low (omega arith) (omega arith) in
+    let row = every-at n a (λ op. rows r (f op) op (steps (nv ∷ bits 8 op) encodings) (steps (nv ∷ bits 8 op) undefineds)) t op h.0 h.1.0 in
+    let col = every-at 2 0 (λ odd. every 16 0 (λ low. is (f op odd low) (inside (r op odd low)) (narrowed es us (rest odd low)))) row odd (omega arith) (omega arith) in
+    let cell = every-at 16 0 (λ low. is (f op odd low) (inside (r op odd low)) (narrowed es us (rest odd low))) col low (omega arith) (omega arith) in
     narrowed-view nv op odd low
-    ∙ same_number (narrowed es us (rest odd low)) k
-    (subst (λ (b : Bool). T (is k b (narrowed es us (rest odd low)))) (inside-true (r op odd low) h.1.1.1.1) cell)
+    ∙ same_number (narrowed es us (rest odd low)) (f op odd low)
+    (subst (λ (b : Bool). T (is (f op odd low) b (narrowed es us (rest odd low)))) (inside-true (r op odd low) h.1.1.1.1) cell)
+
+pub region : (nv a n : ℕ) (r : Region) (k : Class) → T (passes nv a n r k) → (op odd low : ℕ) → In a n r op odd low → encoding_at nv op odd low ≡ k
+unfolding passes
+region nv a n r k t = tabled nv a n r (λ op odd low. k) t
 
 -- a test of the class at every choice of the deciding fields
 unfoldable pub everywhere : (ℕ → ℕ → Class → Bool) → Bool
@@ -177,22 +187,6 @@ where-is f a b r op odd low = between a (f op odd low) b ∷ r op odd low
 abbrev pub load : ℕ → ℕ → ℕ → ℕ
 load op odd low = op % 2
 
--- P, bit 24
-abbrev pub before : ℕ → ℕ → ℕ → ℕ
-before op odd low = op / 16 % 2
-
--- B, bit 22
-abbrev pub byte : ℕ → ℕ → ℕ → ℕ
-byte op odd low = op / 4 % 2
-
--- W and L, bits 21 and 20
-abbrev pub write-load : ℕ → ℕ → ℕ → ℕ
-write-load op odd low = op % 4
-
--- B, W and L
-abbrev pub kind : ℕ → ℕ → ℕ → ℕ
-kind op odd low = op % 8
-
 -- at most 3 unless bits 25 and 4 are both one
 abbrev pub shape : ℕ → ℕ → ℕ → ℕ
 shape op odd low = op / 32 + low % 2
@@ -200,17 +194,8 @@ shape op odd low = op / 32 + low % 2
 abbrev pub low_bits : ℕ → ℕ → ℕ → ℕ
 low_bits op odd low = low
 
-abbrev pub odd-bit : ℕ → ℕ → ℕ → ℕ
-odd-bit op odd low = odd
-
--- the same class under every condition
-pub at_both : (a n : ℕ) (r : Region) (k : Class) → T (passes 0 a n r k) → T (passes 1 a n r k) → (nv op odd low : ℕ) → nv < 2 → In a n r op odd low → encoding_at nv op odd low ≡ k
-at_both a n r k t u nv op odd low v h =
-    ⊎_elim (λ (e : nv ≡ 1). rw e (region 1 a n r k u op odd low h))
-    (λ (l : nv < 1). let e : nv ≡ 0 = omega arith in rw e (region 0 a n r k t op odd low h)) (eq-or-lt_of_le {m = 1} (omega arith))
-
--- a doubleword transfer: its class at an even register, Illegal at an odd one
-pub odd-or-even : (n : ℕ) (k : Class) → T (passes 0 0 32 (where-is load 0 0 (where-is low_bits n n (where-is odd-bit 0 0 anywhere))) k) → T (passes 0 0 32 (where-is load 0 0 (where-is low_bits n n (where-is odd-bit 1 1 anywhere))) Illegal) → (r : Class) (op odd low : ℕ) → (op < 32) × (low ≡ n) × (low < 16) × (op % 2 ≡ 0) → odd < 2 → (odd ≡ 0 → r ≡ k) × (odd ≡ 1 → r ≡ Illegal) → r ≡ encoding_at 0 op odd low
-odd-or-even n k t u r op odd low h o e =
-    ⊎_elim (λ (x : odd ≡ 1). e.1 x ∙ sym (region 0 0 32 (where-is load 0 0 (where-is low_bits n n (where-is odd-bit 1 1 anywhere))) Illegal u op odd low (omega arith)))
-    (λ (l : odd < 1). e.0 (omega arith) ∙ sym (region 0 0 32 (where-is load 0 0 (where-is low_bits n n (where-is odd-bit 0 0 anywhere))) k t op odd low (omega arith))) (eq-or-lt_of_le {m = 1} (omega arith))
+-- the same under every condition
+pub at_both : (a n : ℕ) (r : Region) (f : ℕ → ℕ → ℕ → Class) → T (agrees 0 a n r f) → T (agrees 1 a n r f) → (nv op odd low : ℕ) → nv < 2 → In a n r op odd low → encoding_at nv op odd low ≡ f op odd low
+at_both a n r f t u nv op odd low v h =
+    ⊎_elim (λ (e : nv ≡ 1). rw e (tabled 1 a n r f u op odd low h))
+    (λ (l : nv < 1). let e : nv ≡ 0 = omega arith in rw e (tabled 0 a n r f t op odd low h)) (eq-or-lt_of_le {m = 1} (omega arith))

@@ -2,11 +2,13 @@
 -- Assumes nothing.
 use Rattle.base.proofs.Prelude.{refl, ◌≡◌, subst⁻¹, false, true, Bool, List, ◌≤◌, ℕ, suc, zero, ◌%◌, arith, eqb, ltb, leb, length, le-leb, lt-leb}
 use Rattle.base.proofs.Prelude.{leb-true, eqb-false}
+use Rattle.std.specs.Prelude.{Result, Ok, Err}
+use Rattle.base.specs.declared.refusal.Refusal.{Refusal}
+use Rattle.base.specs.Refusals.{refusal_no}
 use Rattle.arm.specs.Ins.{decode_of}
-use Rattle.base.specs.declared.word.Word.{Word}
-use Rattle.base.specs.declared.word.Word.TheVariants.{Found as W-Found, Missing}
+use Rattle.std.specs.Prelude.{Option, Some, None}
 use Rattle.base.specs.Choice.{pick}
-use Rattle.base.specs.Refusals.{illegal_opcode, list_full, no_epilogue}
+use Rattle.base.specs.declared.refusal.Refusal.TheVariants.{BadWindow, BadStart, UnalignedStart, BadLists, NoEpilogue}
 use Rattle.base.specs.Words.{word_from}
 use Rattle.context.specs.Context.{Maps, Given, Context, Step}
 use Rattle.context.specs.Lists.{Lists, zeroed, places_of, given_by}
@@ -15,8 +17,8 @@ use Rattle.invariants.specs.Turns.{turns_from}
 use Rattle.base.proofs.ChoiceLaws.{both_true}
 use Rattle.invariants.proofs.KeptLaws.{none-fits, written-places}
 use Rattle.invariants.proofs.StepLaws.{same-written}
-use Rattle.stepper.specs.Stepper.{After, is_going, refused, begin, turned}
-use Rattle.validity.specs.Validity.{is_window, is_in_code, are_starts, begin_number}
+use Rattle.stepper.specs.Stepper.{After, is_going, begin, begin_where, turned}
+use Rattle.validity.specs.Validity.{is_window, is_in_code, are_starts, begin_check}
 use Rattle.walk.specs.declared.Answer.{Answer}
 use Rattle.walk.specs.declared.Answer.TheVariants.{Going, Accepted, Refused}
 use Rattle.walk.specs.declared.Counts.{Counts}
@@ -33,21 +35,21 @@ use Rattle.whole.proofs.WholeLaws.{opened, first, last, last-ended, run-whole, r
 
 -- a refusal that ends the walk, and leaves no entries
 record Emptied (number : ℕ) (t : Turned) : Type 0 where
-  least : illegal_opcode ≤ number
-  most : number ≤ no_epilogue
+  least : 5 ≤ number
+  most : number ≤ 14
   counted : t.walk.counts ≡ counts_of no_maps
   maps : t.maps ≡ no_maps
 
 abbrev Over : Answer → Turned → Type 0
 Over Going t = Unit {0}
 Over (Accepted r) t = Unit {0}
-Over (Refused number address register) t = Emptied number t
+Over (Refused refusal address register) t = Emptied (refusal_no refusal) t
 
 abbrev IsOver : Turned → Type 0
 IsOver t = Over t.walk.result t
 
 -- into_function
-function-over : (b : Bool) (r : Record) (c : Context) → IsOver (closed (pick b (Refused no_epilogue 0 0) (Accepted r)) c)
+function-over : (b : Bool) (r : Record) (c : Context) → IsOver (closed (pick b (Refused NoEpilogue 0 0) (Accepted r)) c)
 function-over true r c = record { least = omega arith; most = omega arith; counted = refl; maps = refl }
 function-over false r c = tt
 
@@ -60,12 +62,12 @@ module _ (before : Context) where
       let o = c.given.options in
       function-over (ltb o.module_end (end_address o.known_end end c.progress.last_pool_address)) _ (ending_at end c)
   settled-over (is-refused n l) =
-      let range = both_true (leb illegal_opcode n) _ l in
-      record { least = leb-true _ _ range.0; most = omega (arith, leb-true n list_full range.1); counted = refl; maps = refl }
+      let range = both_true (leb 5 (refusal_no n)) _ l in
+      record { least = leb-true _ _ range.0; most = omega (arith, leb-true (refusal_no n) 13 range.1); counted = refl; maps = refl }
 
-  word_over : (x : Word) → IsOver (turn_at x before)
-  word_over (W-Found word) = settled-over (step-late (decode_of word before.progress.address) word arm_size before)
-  word_over Missing = record { least = omega arith; most = omega arith; counted = refl; maps = refl }
+  word_over : (x : Option ℕ) → IsOver (turn_at x before)
+  word_over (Some word) = settled-over (step-late (decode_of word before.progress.address) word arm_size before)
+  word_over None = record { least = omega arith; most = omega arith; counted = refl; maps = refl }
 
 module _ (g : Given) where
   turn-over : (w : Walk) (m : Maps) → IsOver (turn g w m)
@@ -86,38 +88,37 @@ module _ (g : Given) where
 zeros-again : (l : Lists) → zeroed (zeroed l) ≡ zeroed l
 zeros-again l = same-written (zeroed l) l (written-places l no_maps (none-fits (places_of l))) no_maps
 
-begin-most : (p q r t : Bool) → pick p (pick q (pick r (pick t 0 4) 3) 2) 1 ≤ 4
-begin-most true true true true = omega arith
-begin-most true true true false = omega arith
-begin-most true true false t = omega arith
-begin-most true false r t = omega arith
-begin-most false q r t = omega arith
+-- the refusal of a begin, if there is one, is among the first four
+abbrev IsEarly : Result (Unit {0}) Refusal → Type 0
+IsEarly (Ok t) = Unit {0}
+IsEarly (Err refusal) = (1 ≤ refusal_no refusal) × (refusal_no refusal ≤ 4)
+
+begin-early : (p q r t : Bool)
+    → IsEarly (pick p (pick q (pick r (pick t (Ok tt) (Err BadLists)) (Err UnalignedStart)) (Err BadStart)) (Err BadWindow))
+begin-early true true true true = tt
+begin-early true true true false = (omega arith, omega arith)
+begin-early true true false t = (omega arith, omega arith)
+begin-early true false r t = (omega arith, omega arith)
+begin-early false q r t = (omega arith, omega arith)
 
 module _ (o : Options) (start : ℕ) (code starts : List ℕ) (n : Counts) (l : Lists) where
-  abbrev number : ℕ
-  number = begin_number o start (length code) starts
+  abbrev check : Result (Unit {0}) Refusal
+  check = begin_check o start (length code) starts
 
-  number-most : number ≤ 4
-  unfolding begin_number
-  number-most = begin-most (is_window o (length code)) (is_in_code o.base (length code) start) (eqb (start % 4) 0) (are_starts starts)
+  check-early : IsEarly check
+  unfolding begin_check
+  check-early = begin-early (is_window o (length code)) (is_in_code o.base (length code) start) (eqb (start % 4) 0) (are_starts starts)
 
   -- a begin that is refused
   begin-ended : is_going (opened o start code starts n l).answer ≡ false → Ended n l (opened o start code starts n l)
   unfolding begin begun
-  begin-ended = step (eqb number 0) refl
+  begin-ended = step check check-early
     where
-      begins : Bool → After
-      begins b =
-          pick b
-          (record { walk = begun start (counts_of no_maps); lists = zeroed l; answer = Going })
-          (record { walk = begun start n; lists = l; answer = refused number })
-
-      step : (b : Bool) → eqb number 0 ≡ b → is_going (begins b).answer ≡ false → Ended n l (begins b)
-      step true e off = let z : ◌≡◌ {A = ℕ} 0 1 = cc in omega arith
-      step false e off =
-          let some = eqb-false number 0 e in
-          let early = le-leb number 4 number-most in
-          record { least = omega arith; most = omega (arith, number-most); counted = rw early; holds = rw early }
+      step : (b : Result (Unit {0}) Refusal) → IsEarly b → is_going (begin_where start n l b).answer ≡ false → Ended n l (begin_where start n l b)
+      step (Ok t) e off = let z : ◌≡◌ {A = ℕ} 0 1 = cc in omega arith
+      step (Err refusal) e off =
+          let early = le-leb (refusal_no refusal) 4 e.1 in
+          record { least = e.0; most = omega (arith, e.1); counted = rw early; holds = rw early }
 
   -- one that went on
   abbrev end : Turned
@@ -135,7 +136,7 @@ module _ (o : Options) (start : ℕ) (code starts : List ℕ) (n : Counts) (l : 
       step Going e h = let off = last-ended o start code starts n l in let z : ◌≡◌ {A = ℕ} 0 1 = cc in omega arith
       step (Accepted r) e h = tt
       step (Refused k address register) e h =
-          let late = lt-leb k 4 (omega (arith, h.least)) in
+          let late = lt-leb (refusal_no k) 4 (omega (arith, h.least)) in
           record { least = omega (arith, h.least); most = h.most; counted = rw late h.counted; holds = rw (late, h.maps) (zeros-again l) }
 
   pub ended : Ended n l (run o code starts start n l)

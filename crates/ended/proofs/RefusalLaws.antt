@@ -1,28 +1,31 @@
 -- A step's refusal is one of document 01's 5 to 13, block by block.
 -- Assumes nothing.
 use Rattle.base.proofs.Prelude.{refl, ◌≡◌, true, false, Bool, not, List, [], ◌∷◌, some, none, Option, ℕ, ◌+◌, eqb, ltb, leb}
+use Rattle.std.specs.Prelude.{Option as Optional, Some, None, Result, Ok, Err}
+use Rattle.base.specs.declared.refusal.Refusal.{Refusal}
+use Rattle.base.specs.Refusals.{refusal_no}
+use Rattle.base.specs.declared.refusal.Refusal.{Refusal}
+use Rattle.base.specs.declared.refusal.Refusal.TheVariants.{IllegalOpcode, ShiftedBase, OffsetByItself, PcIntoPc, Beyond32Bits}
+use Rattle.classes.specs.declared.Op2.{Op2}
+use Rattle.classes.specs.declared.Op2.TheVariants.{Imm, ShiftImm, ShiftReg}
 use Rattle.analysis.specs.declared.illegal_code.IllegalCodeState.{IllegalCodeState}
 use Rattle.analysis.specs.declared.illegal_code.IllegalCodeState.TheVariants.{Start, ShiftedRegisterValue, Illegal}
-use Rattle.analysis.specs.declared.inline_table.InlineTableAnswer.{InlineTableAnswer}
-use Rattle.analysis.specs.declared.inline_table.InlineTableAnswer.TheVariants.{Next as T-Next, Refused as T-Refused}
-use Rattle.analysis.specs.declared.inline_table.FoundTable.{FoundTable}
-use Rattle.analysis.specs.declared.inline_table.FoundTable.TheVariants.{Table, Nothing as No-Table}
-use Rattle.analysis.specs.declared.jump_table.JumpTableAnswer.{JumpTableAnswer}
-use Rattle.analysis.specs.declared.jump_table.JumpTableAnswer.TheVariants.{Next as J-Next, Found as J-Found, Refused as J-Refused}
-use Rattle.analysis.specs.declared.jump_table.TableEnd.{TableEnd}
-use Rattle.analysis.specs.declared.jump_table.TableEnd.TheVariants.{At as E-At, Nothing as E-Nothing, Refused as E-Refused}
+use Rattle.analysis.specs.declared.inline_table.InlineTable.{InlineTable}
+use Rattle.analysis.specs.declared.inline_table.InlineTableState.{InlineTableState}
+use Rattle.analysis.specs.declared.inline_table.InlineTableState.TheVariants.{Start as T-Start, SubPc, ValidTable}
+use Rattle.analysis.specs.declared.jump_table.JumpTableStateArm.{JumpTableStateArm}
+use Rattle.analysis.specs.declared.jump_table.JumpTableStateArm.TheVariants.{CmpReg, JumpOrBranchSigned, SignedBaseline, JumpSigned, JumpAfterReturn, ValidJumpTable}
 use Rattle.analysis.specs.IllegalCode.{illegal_code as code_machine, is_shift, dereferenced, offset_by_itself, reads_pc_into_pc}
-use Rattle.analysis.specs.InlineTable.{inline_table as inline_machine, table_of}
-use Rattle.analysis.specs.JumpTable.{jump_table as jump_machine, table_end}
+use Rattle.analysis.specs.InlineTable.{inline_table as inline_machine, table_of, table_address, sub_from, sub_pc_of, table_made}
+use Rattle.analysis.specs.JumpTable.{Answer, jump_table as jump_machine, table_end, end_of_entries, in_state, found}
+use Rattle.analysis.specs.Pattern.{is_when, gt, hi}
+use Rattle.analysis.specs.JumpTable.{compared, jump_or_branch, signed_baseline, jump_at, valid_table}
 use Rattle.arm.specs.declared.Ins.{Ins}
 use Rattle.arm.specs.Ins.{is_conditional}
-use Rattle.base.specs.declared.word.Word.{Word}
-use Rattle.base.specs.declared.word.Word.TheVariants.{Found as W-Found, Missing}
 use Rattle.base.specs.Choice.{pick, both, either}
-use Rattle.base.specs.Refusals.{illegal_opcode, shifted_base, offset_by_itself as offset_base, pc_into_pc, branch_outside as outside, pool_outside}
-use Rattle.base.specs.Refusals.{undefined_register as undefined, beyond32_bits, list_full}
+use Rattle.base.specs.declared.refusal.Refusal.TheVariants.{IllegalOpcode, ShiftedBase, OffsetByItself, PcIntoPc, BranchOutside, PoolOutside, UndefinedRegister, Beyond32Bits, ListFull}
 use Rattle.base.specs.Words.{word_from}
-use Rattle.classes.specs.declared.Class.TheVariants.{Illegal as ILLEGAL}
+use Rattle.classes.specs.declared.Class.TheVariants.{Illegal as ILLEGAL, B, Pop}
 use Rattle.classes.specs.Class.{is}
 use Rattle.context.specs.Blocks.{skip_pool, inline_table_at, table_end_at, skips_to, skip_inline_table, raised_to_table, after_jump, jump_table, coded, illegal_code}
 use Rattle.context.specs.Blocks.{is_in, branch_outside, mark_pool, forget_written, is_long_branch_destination, is_tail_call, call_to, arm, thumb, final_return}
@@ -31,28 +34,25 @@ use Rattle.context.specs.Blocks.{other, loaded, pool_load, tabled, after_inline,
 use Rattle.context.specs.Blocks.{from_return, to_return, handle_ins_inner, passed, handle_ins}
 use Rattle.context.specs.Context.{Context, Step, on, goes, ends, refuses, ◌▸◌, with_machines, with_registers, jump_table_to}
 use Rattle.context.specs.Context.{enter_label, enter_pool, enter_jump_table, enter_inline_table, enter_call, label_row, pool_row, table_row, call_row}
-use Rattle.predicates.specs.declared.Callee.{Callee}
-use Rattle.predicates.specs.declared.Callee.TheVariants.{Nothing as No-Call, Arm, Thumb}
+use Rattle.predicates.specs.declared.Mode.{Mode}
+use Rattle.predicates.specs.declared.Mode.TheVariants.{Arm, Thumb}
 use Rattle.predicates.specs.Predicates.{is_branch, is_bx, is_entry_instruction, is_pool_load, pool_address, called_by}
 use Rattle.registers.specs.Registers.{source_of, holding}
 use Rattle.rows.specs.Rows.{inserted}
 use Rattle.rows.specs.Map.{key_of, stands-in, at_or_above, fits}
 use Rattle.rows.specs.Run.{gap_from}
-use Rattle.rows.specs.declared.Found.{Found}
-use Rattle.rows.specs.declared.Found.TheVariants.{At as F-At, Missing as F-Missing}
-use Rattle.rows.specs.declared.Gap.{Gap}
-use Rattle.rows.specs.declared.Gap.TheVariants.{At as G-At, Beyond as G-Beyond}
 use Rattle.walk.specs.Checking.{undefined_register}
 
-abbrev pub is_late : ℕ → Bool
-is_late n = both (leb illegal_opcode n) (leb n list_full)
+-- a refusal of a step, by its number
+abbrev pub is_late : Refusal → Bool
+is_late refusal = both (leb 5 (refusal_no refusal)) (leb (refusal_no refusal) 13)
 
 -- a step that is refused is so by one of these
 pub data Late : Step → Type 0 where
   is-on : {c : Context} → Late (on c)
   has-gone : {c : Context} → Late (goes c)
   has_ended : {a : ℕ} {c : Context} → Late (ends a c)
-  is-refused : {r : ℕ} (n : ℕ) → is_late n ≡ true → Late (refuses n r)
+  is-refused : {r : ℕ} (n : Refusal) → is_late n ≡ true → Late (refuses n r)
 
 chained : {s : Step} {f : Context → Step} → Late s → ((c : Context) → Late (f c)) → Late (s ▸ f)
 chained (is-on {c}) h = h c
@@ -64,23 +64,72 @@ chosen : {s t : Step} (b : Bool) → Late s → Late t → Late (pick b s t)
 chosen true x y = x
 chosen false x y = y
 
+-- ---- what the machines over tables refuse: a sum that leaves 32 bits
+
+data Sum {A : Type 0} : Result A Refusal → Type 0 where
+  is-sum : (x : A) → Sum (Ok x)
+  is-beyond : Sum (Err Beyond32Bits)
+
+summed : {A : Type 0} {r s : Result A Refusal} (b : Bool) → Sum r → Sum s → Sum (pick b r s)
+summed true x y = x
+summed false x y = y
+
+inline-sum : (s : InlineTableState) (mode : Bool) (a : ℕ) (i : Ins) → Sum (inline_machine s mode a i)
+unfolding sub_pc_of sub_from table_address table_made
+inline-sum T-Start mode a i = summed _ (from i.op2) (is-sum _)
+  where
+    from : (op2 : Op2) → Sum (sub_from mode a i.rd op2)
+    from (Imm v) = summed _ is-beyond (summed _ (is-sum _) is-beyond)
+    from (ShiftImm rm op n) = is-sum _
+    from (ShiftReg rm op rs) = is-sum _
+inline-sum (SubPc base table size) mode a i = summed _ (summed _ (is-sum _) is-beyond) (is-sum _)
+inline-sum (ValidTable table) mode a i = is-sum _
+
+found-sum : (a limit : ℕ) → Sum (found a limit)
+unfolding found
+found-sum a limit = summed _ (is-sum _) is-beyond
+
+state-sum : (s : JumpTableStateArm) (a : ℕ) (i : Ins) → Sum (in_state s a i)
+unfolding compared jump_or_branch signed_baseline jump_at valid_table
+state-sum CmpReg a i = summed _ (is-sum _) (is-sum _)
+state-sum (JumpOrBranchSigned index limit) a i =
+    summed _ (found-sum a limit)
+    (summed (is_when i B gt) (is-sum _) (summed (is_when i Pop hi) (is-sum _) (summed i.updates_condition_flags (is-sum _) (is-sum _))))
+state-sum (SignedBaseline index limit) a i = summed _ (is-sum _) (is-sum _)
+state-sum (JumpSigned index limit) a i = summed _ (found-sum a limit) (summed _ (is-sum _) (is-sum _))
+state-sum (JumpAfterReturn index limit) a i = summed _ (found-sum a limit) (summed _ (is-sum _) (is-sum _))
+state-sum (ValidJumpTable table limit) a i = summed _ (is-sum _) (is-sum _)
+
+jump-sum : (s : JumpTableStateArm) (a : ℕ) (i : Ins) → Sum (jump_machine s a i)
+unfolding jump_machine
+jump-sum s a i = summed _ (is-sum _) (state-sum s a i)
+
+end-sum : (s : JumpTableStateArm) → Sum (table_end s)
+unfolding end_of_entries
+end-sum CmpReg = is-sum _
+end-sum (JumpOrBranchSigned index limit) = is-sum _
+end-sum (SignedBaseline index limit) = is-sum _
+end-sum (JumpSigned index limit) = is-sum _
+end-sum (JumpAfterReturn index limit) = is-sum _
+end-sum (ValidJumpTable table limit) = summed _ (is-sum _) is-beyond
+
 -- ---- insertions
 
 module _ (row : List ℕ) (c : Context) where
   label-late : Late (enter_label row c)
-  label-late = chosen (fits label_row c.given.places.labels (inserted key_of row c.maps.labels)) is-on (is-refused list_full refl)
+  label-late = chosen (fits label_row c.given.places.labels (inserted key_of row c.maps.labels)) is-on (is-refused ListFull refl)
 
   pool-late : Late (enter_pool row c)
-  pool-late = chosen (fits pool_row c.given.places.pools (inserted key_of row c.maps.pools)) is-on (is-refused list_full refl)
+  pool-late = chosen (fits pool_row c.given.places.pools (inserted key_of row c.maps.pools)) is-on (is-refused ListFull refl)
 
   jump-late : Late (enter_jump_table row c)
-  jump-late = chosen (fits table_row c.given.places.jump_tables (inserted key_of row c.maps.jump_tables)) is-on (is-refused list_full refl)
+  jump-late = chosen (fits table_row c.given.places.jump_tables (inserted key_of row c.maps.jump_tables)) is-on (is-refused ListFull refl)
 
   inline-late : Late (enter_inline_table row c)
-  inline-late = chosen (fits table_row c.given.places.inline_tables (inserted key_of row c.maps.inline_tables)) is-on (is-refused list_full refl)
+  inline-late = chosen (fits table_row c.given.places.inline_tables (inserted key_of row c.maps.inline_tables)) is-on (is-refused ListFull refl)
 
   enter-call-late : Late (enter_call row c)
-  enter-call-late = chosen (fits call_row c.given.places.calls (inserted key_of row c.maps.calls)) is-on (is-refused list_full refl)
+  enter-call-late = chosen (fits call_row c.given.places.calls (inserted key_of row c.maps.calls)) is-on (is-refused ListFull refl)
 
 -- ---- the start of handle_ins_inner
 
@@ -94,22 +143,22 @@ skip_inline_table-late c = step (inline_table_at c.progress.address c.maps.inlin
   where
     step : (t : Option (List ℕ)) → Late (skips_to t c)
     step none = is-on
-    step (some t) = chosen (ltb (table_end_at t) 0x1_0000_0000) has-gone (is-refused beyond32_bits refl)
+    step (some t) = chosen (ltb (table_end_at t) 0x1_0000_0000) has-gone (is-refused Beyond32Bits refl)
 
-raised-late : (t : TableEnd) (c : Context) → Late (raised_to_table t c)
-raised-late (E-At end) c = is-on
-raised-late E-Nothing c = is-on
-raised-late E-Refused c = is-refused beyond32_bits refl
+raised-late : {t : Result (Optional ℕ) Refusal} → Sum t → (c : Context) → Late (raised_to_table t c)
+raised-late (is-sum (Some end)) c = is-on
+raised-late (is-sum None) c = is-on
+raised-late is-beyond c = is-refused Beyond32Bits refl
 
 module _ (i : Ins) where
   jump_table-late : (c : Context) → Late (jump_table i c)
   unfolding jump_table
-  jump_table-late c = step (jump_machine c.machines.jump_table c.progress.address i)
+  jump_table-late c = step (jump-sum c.machines.jump_table c.progress.address i)
     where
-      step : (a : JumpTableAnswer) → Late (after_jump i a c)
-      step (J-Next s) = raised-late (table_end s) _
-      step (J-Found s t) = chained (jump-late (t.address ∷ t.size ∷ []) (with_machines (jump_table_to s c.machines) c)) (raised-late (table_end s))
-      step J-Refused = is-refused beyond32_bits refl
+      step : {a : Answer} → Sum a → Late (after_jump i a c)
+      step (is-sum (s, None)) = raised-late (end-sum s) _
+      step (is-sum (s, Some t)) = chained (jump-late (t.address ∷ t.size ∷ []) (with_machines (jump_table_to s c.machines) c)) (raised-late (end-sum s))
+      step is-beyond = is-refused Beyond32Bits refl
 
   illegal_code-late : (c : Context) → Late (illegal_code i c)
   unfolding illegal_code code_machine
@@ -117,19 +166,19 @@ module _ (i : Ins) where
       step (is i.class ILLEGAL) (is_shift i) (dereferenced c.machines.illegal_code i) (offset_by_itself i) (reads_pc_into_pc i)
     where
       reason : Bool → Bool → Bool → Bool → Bool → IllegalCodeState
-      reason p q r t u = pick p (Illegal 5) (pick q (ShiftedRegisterValue i.rd) (pick r (Illegal 6) (pick t (Illegal 7) (pick u (Illegal 8) Start))))
+      reason p q r t u = pick p (Illegal IllegalOpcode) (pick q (ShiftedRegisterValue i.rd) (pick r (Illegal ShiftedBase) (pick t (Illegal OffsetByItself) (pick u (Illegal PcIntoPc) Start))))
 
       step : (p q r t u : Bool) → Late (coded (reason p q r t u) c)
-      step true q r t u = is-refused illegal_opcode refl
+      step true q r t u = is-refused IllegalOpcode refl
       step false true r t u = is-on
-      step false false true t u = is-refused shifted_base refl
-      step false false false true u = is-refused offset_base refl
-      step false false false false true = is-refused pc_into_pc refl
+      step false false true t u = is-refused ShiftedBase refl
+      step false false false true u = is-refused OffsetByItself refl
+      step false false false false true = is-refused PcIntoPc refl
       step false false false false false = is-on
 
   branch_outside-late : (c : Context) → Late (branch_outside i c)
   unfolding branch_outside
-  branch_outside-late c = chosen (both (is_branch i) (not (is_in 0x01FF_8000 0x0300_0000 i.target))) (is-refused outside refl) is-on
+  branch_outside-late c = chosen (both (is_branch i) (not (is_in 0x01FF_8000 0x0300_0000 i.target))) (is-refused BranchOutside refl) is-on
 
   mark_pool-late : (c : Context) → Late (mark_pool i c)
   unfolding mark_pool
@@ -163,18 +212,18 @@ module _ (i : Ins) where
         has_ended
         is-on
 
-    gap-late : (g : Gap) (c : Context) → Late (past_gap g c)
-    gap-late (G-At after) c = is-on
-    gap-late G-Beyond c = is-refused beyond32_bits refl
+    gap-late : (g : Optional ℕ) (c : Context) → Late (past_gap g c)
+    gap-late (Some after) c = is-on
+    gap-late None c = is-refused Beyond32Bits refl
 
     past_pools-late : (c : Context) → Late (past_pools i size c)
     unfolding past_pools
     past_pools-late c =
         chosen (stands-in c.maps.pools (c.progress.address + size)) (step (at_or_above c.next c.maps.labels)) is-on
       where
-        step : (f : Found) → Late (to_label i size f c)
-        step (F-At k) = is-on
-        step F-Missing =
+        step : (f : Optional ℕ) → Late (to_label i size f c)
+        step (Some k) = is-on
+        step None =
             chosen (ltb c.progress.address i.target) has_ended
             (gap-late (gap_from (stands-in c.maps.pools) (c.progress.address + size)) c)
 
@@ -198,35 +247,35 @@ module _ (i : Ins) where
   unfolding pool_load
   pool_load-late c = chosen (is_pool_load i) (step _ (word_from c.given.code c.given.options.base (pool_address c.progress.address i))) is-on
     where
-      step : (a : ℕ) (w : Word) → Late (loaded i a w c)
-      step a (W-Found value) = chained (pool-late (a ∷ value ∷ other ∷ []) (with_registers (holding c.registers i.rd value a) c)) (λ d. is-on)
-      step a Missing = is-refused pool_outside refl
+      step : (a : ℕ) (w : Optional ℕ) → Late (loaded i a w c)
+      step a (Some value) = chained (pool-late (a ∷ value ∷ other ∷ []) (with_registers (holding c.registers i.rd value a) c)) (λ d. is-on)
+      step a None = is-refused PoolOutside refl
 
   inline_table-late : (c : Context) → Late (inline_table i c)
   unfolding inline_table
-  inline_table-late c = step (inline_machine c.machines.inline_table false c.progress.address i)
+  inline_table-late c = step (inline-sum c.machines.inline_table false c.progress.address i)
     where
-      table : (t : FoundTable) (d : Context) → Late (tabled t d)
-      table (Table t) d = inline-late (t.address ∷ t.size ∷ []) d
-      table No-Table d = is-on
+      table : (t : Optional InlineTable) (d : Context) → Late (tabled t d)
+      table (Some t) d = inline-late (t.address ∷ t.size ∷ []) d
+      table None d = is-on
 
-      step : (a : InlineTableAnswer) → Late (after_inline i a c)
-      step (T-Next s) = table (table_of s) _
-      step T-Refused = is-refused beyond32_bits refl
+      step : {a : Result InlineTableState Refusal} → Sum a → Late (after_inline i a c)
+      step (is-sum s) = table (table_of s) _
+      step is-beyond = is-refused Beyond32Bits refl
 
   function_call-late : (word : ℕ) (c : Context) → Late (function_call i word c)
   unfolding function_call
   function_call-late word c = step (called_by i)
     where
-      step : (f : Callee) → Late (called_as i word f c)
-      step No-Call = is-on
-      step Arm = call-late word arm c
-      step Thumb = call-late word thumb c
+      step : (f : Optional Mode) → Late (called_as i word f c)
+      step None = is-on
+      step (Some Arm) = call-late word arm c
+      step (Some Thumb) = call-late word thumb c
 
   check_defined-late : (returns : Bool) (c : Context) → Late (check_defined i returns c)
   unfolding check_defined
   check_defined-late returns c =
-      chosen (ltb (undefined_register c.given.options.check c.progress.defined_registers i) 16) (is-refused undefined refl) is-on
+      chosen (ltb (undefined_register c.given.options.check c.progress.defined_registers i) 16) (is-refused UndefinedRegister refl) is-on
 
   -- ---- one block after another
 

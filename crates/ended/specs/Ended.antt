@@ -1,5 +1,6 @@
 -- What a whole walk comes to, by the counts and the lists that a host gave: a record, or a refusal.
 -- Assumes nothing.
+use Rattle.base.specs.Refusals.{refusal_no}
 use Rattle.std.specs.Prelude.{ℕ, ◌≤◌, ◌≡◌, leb}
 use Rattle.base.specs.Choice.{pick}
 use Rattle.context.specs.Lists.{Lists, zeroed}
@@ -19,7 +20,7 @@ pub record Refusing (n : Counts) (l : Lists) (after : After) (number : ℕ) : Ty
 abbrev pub EndedBy : Counts → Lists → After → Answer → Type 0
 EndedBy n l after Going = ⊥
 EndedBy n l after (Accepted r) = Unit {0}
-EndedBy n l after (Refused number address register) = Refusing n l after number
+EndedBy n l after (Refused refusal address register) = Refusing n l after (refusal_no refusal)
 
 abbrev pub Ended : Counts → Lists → After → Type 0
 Ended n l after = EndedBy n l after after.answer

@@ -1,7 +1,9 @@
 -- From what the parts of the work give to what is found and listed.
 -- Assumes nothing.
 use Rattle.base.proofs.Prelude.{refl, ◌≡◌, ap, false, true, Bool, List, [], ◌++◌, ◌≤◌, ℕ, ◌+◌, ◌*◌, arith, leb, length, length-append, leb-false}
-use Rattle.base.specs.Refusals.{bad_request}
+use Rattle.std.specs.Prelude.{Option, Some, None, Result, Ok, Err}
+use Rattle.base.specs.Refusals.{refusal_no}
+use Rattle.base.specs.declared.refusal.Refusal.TheVariants.{BadRequest}
 use Rattle.context.specs.Lists.{Lists, maps_in}
 use Rattle.context.specs.Turn.{no_maps, counts_of}
 use Rattle.ended.specs.Ended.{EndedBy}
@@ -9,8 +11,6 @@ use Rattle.ended.proofs.EndedLaws.{ended}
 use Rattle.listing.specs.Lines.{field, newline}
 use Rattle.listing.specs.Listing.{record_line, refusal_line, shown, list_lines, text_with, text_of, room_with, room_for}
 use Rattle.listing.proofs.ListingLaws.{record-length}
-use Rattle.request.specs.declared.Parsed.{Parsed}
-use Rattle.request.specs.declared.Parsed.TheVariants.{Asked, Refused}
 use Rattle.request.specs.declared.Request.{Request}
 use Rattle.request.specs.Request.{code_of, parsed}
 use Rattle.stepper.specs.declared.Answered.{Answered as Stepped}
@@ -25,10 +25,9 @@ use Rattle.walk.specs.declared.Answer.TheVariants.{Going, Accepted, Refused as R
 use Rattle.walk.specs.declared.Counts.{Counts}
 use Rattle.walk.specs.declared.Walk.{Walk}
 use Rattle.whole.specs.Whole.{run}
-use Rattle.words.specs.Answer.{Answered}
+use Rattle.words.specs.Answer.{no_room, Answered}
 use Rattle.words.specs.Names.{bytes}
-use Rattle.words.specs.declared.Answer as words
-use Rattle.words.specs.declared.Answer.TheVariants.{Text, NoRoom}
+use Rattle.words.specs.declared.NoRoom.{NoRoom}
 use Rattle.finder.specs.declared.Outcome.{Outcome}
 use Rattle.finder.specs.Finder.{entries_in, Listing, Finds, found_by, found_in, found, text_by, room_by, Listed}
 
@@ -43,26 +42,26 @@ run-finds r code n before after s none h =
 
 module _ (input : List ℕ) (before : Lists) where
   pub asked-finds : (after : Lists) (r : Request) (f : Outcome)
-      → parsed input ≡ Asked r
+      → parsed input ≡ Some r
       → Finds f after (found_by r (code_of input) before)
       → Finds f after (found input before)
   unfolding found found_in
   asked-finds after r f is h = rw is h
 
-  pub refused-finds : (n : Counts) → parsed input ≡ Refused → n ≡ counts_of no_maps
-      → Finds (record { answer = refused bad_request; counts = n }) before (found input before)
+  pub refused-finds : (n : Counts) → parsed input ≡ None → n ≡ counts_of no_maps
+      → Finds (record { answer = refused BadRequest; counts = n }) before (found input before)
   unfolding found found_in
   refused-finds n is none = rw is (record { answers = refl; counted = none; holds = refl })
 
   -- the listing of what was found
-  pub found-listed : (after : Lists) (out left : List ℕ) (f : Outcome) (a : words.Answer)
+  pub found-listed : (after : Lists) (out left : List ℕ) (f : Outcome) (a : Result ℕ NoRoom)
       → Finds f after (found input before)
       → Answered (text_of f.answer after f.counts) (room_for after f.counts) out a left
       → Listed input before after out a left
   found-listed after out left f a h t = record { text = rw (← h.answers, ← h.counted, ← h.holds) t; holds = h.holds }
 
   -- what stands for an input that is no request
-  pub refused-text : parsed input ≡ Refused → text_by (found input before) ≡ bytes "refused 16 00000000\n"
+  pub refused-text : parsed input ≡ None → text_by (found input before) ≡ bytes "refused 16 00000000\n"
   unfolding found found_in text_of text_with refusal_line field newline bytes strip decimal hex_digit digits hex
   refused-text is = rw is
 
@@ -72,7 +71,7 @@ module _ (input : List ℕ) (before : Lists) where
 abbrev pub Lines : Answer → Lists → Counts → List ℕ → Type 0
 Lines Going l n text = ⊥
 Lines (Accepted r) l n text = text ≡ record_line r ++ list_lines (maps_in n l)
-Lines (Refused-by number address register) l n text = text ≡ refusal_line number address
+Lines (Refused-by refusal address register) l n text = text ≡ refusal_line (refusal_no refusal) address
 
 some-lines : (a : Answer) (l : Lists) (n : Counts) (text : List ℕ) → Lines a l n text → 1 ≤ length text
 unfolding refusal_line newline
@@ -94,11 +93,11 @@ module _ (input : List ℕ) (before : Lists) where
       over x (Accepted r) h e = let z : ◌≡◌ {A = ℕ} 0 1 = cc in omega arith
       over x (Refused-by number address register) h e = let z : ◌≡◌ {A = ℕ} 0 1 = cc in omega arith
 
-      go : (p : Parsed) → (found_in p input before).answer ≡ Going → ⊥
-      go (Asked r) e =
+      go : (p : Option Request) → (found_in p input before).answer ≡ Going → ⊥
+      go (Some r) e =
           over (run r.options (code_of input) [] r.start (counts_of no_maps) before) _
           (ended r.options r.start (code_of input) [] (counts_of no_maps) before) e
-      go Refused e = let z : ◌≡◌ {A = ℕ} 0 1 = cc in omega arith
+      go None e = let z : ◌≡◌ {A = ℕ} 0 1 = cc in omega arith
 
   abbrev listed : Counts
   listed = shown all.lists all.counts
@@ -118,8 +117,8 @@ module _ (input : List ℕ) (before : Lists) where
 -- ---- the buffer
 
 -- an answer of n bytes lies within it
-pub listed-within : {input out left : List ℕ} {before after : Lists} {r : words.Answer} {n : ℕ}
-    → Listed input before after out r left → r ≡ Text n → n ≤ length left
+pub listed-within : {input out left : List ℕ} {before after : Lists} {r : Result ℕ NoRoom} {n : ℕ}
+    → Listed input before after out r left → r ≡ Ok n → n ≤ length left
 listed-within {input} {out} {left} {before} {r = r} {n = n} h is = go (leb room (length out)) h.text.answer h.text.buffer
   where
     text : List ℕ
@@ -128,7 +127,7 @@ listed-within {input} {out} {left} {before} {r = r} {n = n} h is = go (leb room 
     room : ℕ
     room = room_by (found input before)
 
-    go : (t : Bool) → r ≡ pick t (Text (length text)) NoRoom → left ≡ pick t (put out 0 text) out → n ≤ length left
+    go : (t : Bool) → r ≡ pick t (Ok (length text)) (Err no_room) → left ≡ pick t (put out 0 text) out → n ≤ length left
     go true p q =
         let same : n ≡ length text = cc in
         rw (q, put_front) (simp length-append (omega arith))
@@ -139,11 +138,11 @@ pub room_most : (l : Lists) (n : Counts) → room_for l n ≤ 45 + 40 * entries_
 unfolding room_for room_with shown
 room_most l n = omega arith
 
--- so NoRoom never comes for one
-pub never-short : {input out left : List ℕ} {before after : Lists} {r : words.Answer}
+-- so it has room for each for one
+pub never-short : {input out left : List ℕ} {before after : Lists} {r : Result ℕ NoRoom}
     → Listed input before after out r left
     → 45 + 40 * entries_in after ≤ length out
-    → r ≡ NoRoom → ⊥
+    → r ≡ Err no_room → ⊥
 never-short {input} {out} {before = before} {after = after} {r = r} h most = go (leb room (length out)) refl h.text.answer
   where
     room : ℕ
@@ -155,6 +154,6 @@ never-short {input} {out} {before = before} {after = after} {r = r} h most = go 
         let enough = rw h.holds at most in
         omega arith
 
-    go : (t : Bool) → leb room (length out) ≡ t → r ≡ pick t (Text (length (text_by (found input before)))) NoRoom → r ≡ NoRoom → ⊥
+    go : (t : Bool) → leb room (length out) ≡ t → r ≡ pick t (Ok (length (text_by (found input before)))) (Err no_room) → r ≡ Err no_room → ⊥
     go true e p q = let z : ◌≡◌ {A = ℕ} 0 1 = cc in omega arith
     go false e p q = let past = leb-false room (length out) e in omega (arith, fits, past)

@@ -1,21 +1,19 @@
 -- Document 01: what the listing program finds and prints for an input.
 -- Assumes nothing.
-use Rattle.std.specs.Prelude.{ℕ, ◌≡◌, ◌+◌, ◌/◌, List, [], length}
-use Rattle.base.specs.Refusals.{bad_request}
+use Rattle.std.specs.Prelude.{ℕ, ◌≡◌, ◌+◌, ◌/◌, List, [], Option, Some, None, Result, length}
+use Rattle.base.specs.declared.refusal.Refusal.TheVariants.{BadRequest}
 use Rattle.context.specs.Context.{label_row, pool_row, table_row, call_row}
 use Rattle.context.specs.Lists.{Lists}
 use Rattle.context.specs.Turn.{no_maps, counts_of}
 use Rattle.stepper.specs.Stepper.{After, refused}
 use Rattle.listing.specs.Listing.{text_of, room_for}
-use Rattle.request.specs.declared.Parsed.{Parsed}
-use Rattle.request.specs.declared.Parsed.TheVariants.{Asked, Refused}
 use Rattle.request.specs.declared.Request.{Request}
 use Rattle.request.specs.Request.{code_of, parsed}
 use Rattle.walk.specs.declared.Answer.{Answer}
 use Rattle.walk.specs.declared.Counts.{Counts}
 use Rattle.whole.specs.Whole.{run}
 use Rattle.words.specs.Answer.{Answered}
-use Rattle.words.specs.declared.Answer as words
+use Rattle.words.specs.declared.NoRoom.{NoRoom}
 use Rattle.finder.specs.declared.Outcome.{Outcome}
 
 -- what is listed: an answer, the lists after it and their counts
@@ -32,9 +30,9 @@ unfoldable pub found_by : Request → List ℕ → Lists → Listing
 found_by r code l = listing_of (run r.options code [] r.start (counts_of no_maps) l)
 
 -- what is no request is refused as 16, and no list changes
-unfoldable pub found_in : Parsed → List ℕ → Lists → Listing
-found_in (Asked r) input l = found_by r (code_of input) l
-found_in Refused input l = record { answer = refused bad_request; lists = l; counts = counts_of no_maps }
+unfoldable pub found_in : Option Request → List ℕ → Lists → Listing
+found_in (Some r) input l = found_by r (code_of input) l
+found_in None input l = record { answer = refused BadRequest; lists = l; counts = counts_of no_maps }
 
 unfoldable pub found : List ℕ → Lists → Listing
 found input l = found_in (parsed input) input l
@@ -52,7 +50,7 @@ abbrev pub room_by : Listing → ℕ
 room_by g = room_for g.lists g.counts
 
 -- the text in the buffer, and what every place of every list holds
-pub record Listed (input : List ℕ) (before after : Lists) (out : List ℕ) (r : words.Answer) (left : List ℕ) : Type 0 where
+pub record Listed (input : List ℕ) (before after : Lists) (out : List ℕ) (r : Result ℕ NoRoom) (left : List ℕ) : Type 0 where
   pub text : Answered (text_by (found input before)) (room_by (found input before)) out r left
   pub holds : after ≡ (found input before).lists
 

@@ -3,15 +3,16 @@
 
 pub mod output;
 
-ghost use Rattle.std.specs.Prelude.{◌≡◌};
+ghost use Rattle.std.specs.Prelude.{◌≡◌, Ok, Err};
 ghost use Rattle.context.specs.Lists.{lists};
-ghost use Rattle.words.specs.declared.Answer.TheVariants.{Text, NoRoom};
+ghost use Rattle.words.specs.Answer.{no_room};
 ghost use Rattle.finder.specs.Finder.{Finds, found_by, found, Listed};
 
-use base::refusal::BAD_REQUEST;
+use base::refusal::Refusal;
 use outcome::no_counts;
-use request::{Parsed, Request};
+use request::Request;
 use walk::{Answer, Counts};
+use words::NoRoom;
 
 // The answer to a request; how many entries of each list go with it.
 #[derive(Clone, Copy)]
@@ -33,9 +34,8 @@ fn walk_whole(
     ensures { Finds result (lists labels.new pools.new jump_tables.new inline_tables.new calls.new) (found_by r code.now (lists labels.old pools.old jump_tables.old inline_tables.old calls.old)) }
 {
     let starts: [u32; 0] = [];
-    let o = r.options;
     let run = whole::run(
-        o,
+        r.options,
         r.start,
         code,
         &starts,
@@ -46,10 +46,10 @@ fn walk_whole(
         calls,
         no_counts(),
     );
-    let answer = run.answer;
-    let walk = run.walk;
-    let counts = walk.counts;
-    Outcome { answer, counts }
+    Outcome {
+        answer: run.answer,
+        counts: run.walk.counts,
+    }
 }
 
 // What an input asks for. One that is no request changes no list.
@@ -64,7 +64,7 @@ fn find(
     ensures { Finds result (lists labels.new pools.new jump_tables.new inline_tables.new calls.new) (found input.now (lists labels.old pools.old jump_tables.old inline_tables.old calls.old)) }
 {
     match request::parse(input) {
-        Parsed::Asked(r) => walk_whole(
+        Some(r) => walk_whole(
             r,
             &input[26..],
             labels,
@@ -73,9 +73,9 @@ fn find(
             inline_tables,
             calls,
         ),
-        Parsed::Refused => Outcome {
+        None => Outcome {
             answer: Answer::Refused {
-                number: BAD_REQUEST,
+                refusal: Refusal::BadRequest,
                 address: 0,
                 register: 0,
             },
@@ -93,31 +93,26 @@ pub fn list_function(
     inline_tables: &mut [u32],
     calls: &mut [u32],
     out: &mut [u8],
-) -> words::Answer
+) -> Result<usize, NoRoom>
     ensures { Listed input.now (lists labels.old pools.old jump_tables.old inline_tables.old calls.old) (lists labels.new pools.new jump_tables.new inline_tables.new calls.new) out.old result out.new }
 {
     let found = find(input, labels, pools, jump_tables, inline_tables, calls);
-    let answer = found.answer;
-    let counts = found.counts;
     listing::listing(
         out,
-        answer,
+        found.answer,
         labels,
         pools,
         jump_tables,
         inline_tables,
         calls,
-        counts,
+        found.counts,
     )
 }
 
 // Of an answer that is a text. A caller shows that its buffer had room.
-pub fn text_length(answer: words::Answer) -> usize
-    requires { answer ≡ NoRoom → ⊥ }
-    ensures { answer ≡ Text result }
+pub fn text_length(answer: Result<usize, NoRoom>) -> usize
+    requires { answer ≡ Err no_room → ⊥ }
+    ensures { answer ≡ Ok result }
 {
-    match answer {
-        words::Answer::Text(length) => length,
-        words::Answer::NoRoom => 0,
-    }
+    answer.unwrap()
 }

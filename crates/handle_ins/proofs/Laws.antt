@@ -1,14 +1,14 @@
 -- What the code of handle_ins comes to: the calls that it asks, its blocks, and the call that it puts.
 -- Assumes nothing.
-use Rattle.base.proofs.Prelude.{◌∙◌, sym, refl, ◌≡◌, ap, subst, false, true, Bool, not, List, [], ◌∷◌, ◌≤◌, ℕ, ◌+◌, ◌<◌, ◌^◌, add-one, ltb, length}
-use Rattle.base.proofs.Prelude.{get_or, drop, drop_of_length-le, drop-cons, eq-eqb, ne_eqb}
+use Rattle.base.proofs.Prelude.{◌∙◌, sym, refl, ◌≡◌, ap, subst, false, true, Bool, List, [], ◌∷◌, ℕ, ◌+◌, ◌<◌, ◌^◌, eqb, ltb, length}
+use Rattle.base.proofs.Prelude.{get_or}
 use Rattle.arm.specs.declared.Ins.{Ins}
 use Rattle.base.specs.Choice.{pick}
-use Rattle.base.specs.Refusals.{list_full}
 use Rattle.context.specs.declared.Handled.{Handled}
 use Rattle.context.specs.declared.Loaded.{Loaded}
-use Rattle.context.specs.declared.Put.{Put}
-use Rattle.context.specs.declared.Put.TheVariants.{Nothing, Call}
+use Rattle.std.specs.Prelude.{Option, Some, None, Result, Ok, Err, ◌||◌}
+use Rattle.std.specs.List.{list_any}
+use Rattle.context.specs.declared.NewCall.{NewCall}
 use Rattle.context.specs.declared.State.{State}
 use Rattle.context.specs.declared.Stepped.{Stepped}
 use Rattle.context.specs.declared.Then.{Then}
@@ -17,12 +17,13 @@ use Rattle.context.specs.Blocks.{is_destination, in_conditional_block, to_return
 use Rattle.context.specs.Context.{Context, Given, Step, call_row, label_row, pool_row, table_row, going_to}
 use Rattle.context.specs.Lists.{Lists, lists, AllHeld, given_by}
 use Rattle.context.specs.State.{World, Holds, Settles, Comes, Does, PutsIf, ToldOfCalls, asks_calls, context_of, called, is_on, read, placed, has_place}
-use Rattle.context.specs.State.{labels_in, pools_in, jump_tables_in, inline_tables_in, options_in, code_in, starts_in, registers_in, forgotten_by, loaded_by, loaded_in, passes, passes_as, headed, counted, count_calls}
-use Rattle.context.proofs.Laws.{settled as comes, stop, go_on}
+use Rattle.context.specs.State.{labels_in, pools_in, jump_tables_in, inline_tables_in, options_in, code_in, starts_in, registers_in, forgotten_by, loaded_by, loaded_in, passes, passes_as, headed}
+use Rattle.context.proofs.Laws.{settled as comes, full-refusal, stop, go_on}
 use Rattle.predicates.specs.Predicates.{is_return}
 use Rattle.registers.specs.declared.Registers.{Registers}
 use Rattle.registers.specs.Registers.{forgotten}
-use Rattle.rows.specs.declared.Entered.{Entered}
+use Rattle.base.specs.declared.refusal.Refusal.{Refusal}
+use Rattle.base.specs.declared.refusal.Refusal.TheVariants.{ListFull}
 use Rattle.rows.specs.Map.{key_of, map_in, Held, Entering, fits}
 use Rattle.rows.specs.Rows.{inserted}
 use Rattle.rows.proofs.RowLaws.{inserted-length}
@@ -30,46 +31,55 @@ use Rattle.walk.specs.declared.Counts.{Counts}
 use Rattle.walk.specs.declared.Options.{Options}
 use Rattle.handle_ins.specs.Handles.{context_in, world_of, all_in, calls_of, Inner, has_room, calls_at, with_entry, Stores, Handles}
 
--- ---- whether a call goes to an address, from the i-th on
+-- ---- whether a call goes to an address, as a test of each
 
-module _ (a : ℕ) (calls : List (List ℕ)) (i : ℕ) (h : i < length calls) where
-  pub goes-there : get_or (get_or calls i []) 2 0 ≡ a → is_destination a (drop i calls) ≡ true
-  unfolding is_destination
-  goes-there e = rw (drop-cons calls i [] h, eq-eqb (get_or (get_or calls i []) 2 0) a e)
-
-  pub goes-elsewhere : (get_or (get_or calls i []) 2 0 ≡ a → ⊥) → is_destination a (drop i calls) ≡ is_destination a (drop (i + 1) calls)
-  unfolding is_destination
-  goes-elsewhere d = rw (drop-cons calls i [] h, ne_eqb (get_or (get_or calls i []) 2 0) a d, add-one)
-
-pub goes-nowhere : (a : ℕ) (calls : List (List ℕ)) (i : ℕ) → length calls ≤ i → is_destination a (drop i calls) ≡ false
+pub goes-any : (a : ℕ) (calls : List (List ℕ)) → list_any (λ c. eqb (get_or c 2 0) a) calls ≡ is_destination a calls
 unfolding is_destination
-goes-nowhere a calls i h = rw (drop_of_length-le calls h)
+goes-any a [] = refl
+goes-any a (c ∷ cs) = step (eqb (get_or c 2 0) a) (goes-any a cs)
+  where
+    step : (b : Bool) → list_any (λ c. eqb (get_or c 2 0) a) cs ≡ is_destination a cs
+        → (b || list_any (λ c. eqb (get_or c 2 0) a) cs) ≡ pick b true (is_destination a cs)
+    step true e = refl
+    step false e = e
 
 -- ---- the call of a step in its list
 
 as_long : (a : ℕ) (r : List ℕ) (places : ℕ) (m : List (List ℕ)) → fits call_row places (inserted key_of (a ∷ r) m) ≡ fits call_row places (inserted key_of (a ∷ []) m)
 as_long a r places m = rw (inserted-length key_of (a ∷ r) m, inserted-length key_of (a ∷ []) m)
 
-unless : {A : Type 0} (full has : Bool) (x y : A) → full ≡ not has → pick full x y ≡ pick has y x
-unless true true x y e = cc
-unless true false x y e = refl
-unless false true x y e = refl
-unless false false x y e = cc
-
 module _ (count : ℕ) (before : List ℕ) (r : Stepped) where
   -- one that puts no call
-  pub stores-nothing : {n : ℕ} → r.state.call ≡ Nothing → n ≡ count → Held call_row count before
-      → Stores count before before r (with_entry (record { full = false; count = n }) r)
-  stores-nothing e same h = rw (same, e) (record { held = h; counts = refl; says = λ q g h l. refl; full = λ q. cc })
+  pub stores-nothing : r.state.call ≡ None → Held call_row count before → Stores count before before r (with_entry count (Ok count) r)
+  stores-nothing e h = rw e (record { held = h; counts = refl; says = λ q g h l. refl; full = λ q. cc })
 
-  pub stores-call : {w d mode : ℕ} {after : List ℕ} {e : Entered} {p : Stepped} → r.state.call ≡ Call w d mode
-      → Entering call_row count before (r.state.progress.address ∷ w ∷ d ∷ mode ∷ []) e after → p ≡ with_entry e r → Stores count before after r p
-  stores-call {w} {d} {mode} {after} {e} call i is =
-      rw (is, call)
-      (record {
+  pub stores-call : {w d mode : ℕ} {after : List ℕ} {p : Stepped} (e : Result ℕ Refusal) → r.state.call ≡ Some (record { word = w; destination = d; mode = mode })
+      → Entering call_row count before (r.state.progress.address ∷ w ∷ d ∷ mode ∷ []) e after → p ≡ with_entry count e r → Stores count before after r p
+  stores-call {w} {d} {mode} {after} e call i is = rw is (step e i)
+    where
+      row : List (List ℕ)
+      row = inserted key_of (r.state.progress.address ∷ w ∷ d ∷ mode ∷ []) (map_in call_row count before)
+
+      room : Bool
+      room = has_room r.state.progress.address count before
+
+      same : fits call_row (length before) row ≡ room
+      same = as_long r.state.progress.address (w ∷ d ∷ mode ∷ []) (length before) (map_in call_row count before)
+
+      has : {m : ℕ} (b : Bool) → ◌≡◌ {A = Result ℕ Refusal} (Ok m) (pick b (Ok m) (Err ListFull)) → b ≡ false → ⊥
+      has true q f = cc
+      has false q f = cc
+
+      hasnt : {m : Refusal} (b : Bool) → ◌≡◌ {A = Result ℕ Refusal} (Err m) (pick b (Ok count) (Err ListFull)) → b ≡ true → ⊥
+      hasnt true q f = cc
+      hasnt false q f = cc
+
+      step : (e : Result ℕ Refusal) → Entering call_row count before (r.state.progress.address ∷ w ∷ d ∷ mode ∷ []) e after
+          → Stores count before after r (with_entry count e r)
+      step (Ok m) i = record {
         held = i.held;
         counts = refl;
-        says = λ q g h l. ap (λ (t : Then). read t (context_in g h (counted (count_calls e.count r.state.counts) r.state) (calls_at after l))) (goes (Refuses list_full 0) r.then q) ∙ ap (λ (m : List (List ℕ)). read r.then (record {
+        says = λ q g h l. rw call (ap (λ (m : List (List ℕ)). read r.then (record {
           given = g;
           next = r.state.next;
           progress = r.state.progress;
@@ -82,18 +92,15 @@ module _ (count : ℕ) (before : List ℕ) (r : Stepped) where
             inline_tables = map_in table_row r.state.counts.inline_tables l.inline_tables;
             calls = m;
           };
-        })) (i.leaves ∙ goes (map_in call_row count before) row q);
-        full = λ q. unless e.full (has_room r.state.progress.address count before) (Refuses list_full 0) r.then not_full ∙ rw q;
-      })
-    where
-      row : List (List ℕ)
-      row = inserted key_of (r.state.progress.address ∷ w ∷ d ∷ mode ∷ []) (map_in call_row count before)
-
-      not_full : e.full ≡ not (has_room r.state.progress.address count before)
-      not_full = i.says ∙ ap not (as_long r.state.progress.address (w ∷ d ∷ mode ∷ []) (length before) (map_in call_row count before))
-
-      goes : {A : Type 0} (x y : A) → has_room r.state.progress.address count before ≡ true → pick e.full x y ≡ y
-      goes x y q = unless e.full (has_room r.state.progress.address count before) x y not_full ∙ rw q
+        })) i.leaves);
+        full = λ q. absurd (has (fits call_row (length before) row) i.says (same ∙ rw call at q));
+      }
+      step (Err refusal) i = record {
+        held = i.held;
+        counts = refl;
+        says = λ q g h l. absurd (hasnt (fits call_row (length before) row) i.says (same ∙ rw call at q));
+        full = λ q. rw (full-refusal i);
+      }
 
 -- ---- handle_ins
 
@@ -133,7 +140,7 @@ module _ (o : Options) (code starts : List ℕ) (i : Ins) (word size : ℕ) (s :
   inner-stops e =
       stop (λ c. from_return i word size (in_conditional_block c) (is_return c.progress.address i c.progress.previous) c) e (comes (rw e at inner_first))
 
-  pub inner-goes : {labels' pools' inlines' : List ℕ} (u : Loaded) {inside returns is_called : Bool} → s.call ≡ Nothing → is_on r.then ≡ true
+  pub inner-goes : {labels' pools' inlines' : List ℕ} (u : Loaded) {inside returns is_called : Bool} → s.call ≡ None → is_on r.then ≡ true
       → inside ≡ ltb r.state.progress.address r.state.progress.last_conditional_destination
       → returns ≡ is_return r.state.progress.address i r.state.progress.previous
       → (asks_calls size inside returns r.state.progress ≡ true → is_called ≡ is_destination (r.state.progress.address + size) l.calls)
@@ -163,14 +170,14 @@ module _ (o : Options) (code starts : List ℕ) (i : Ins) (word size : ℕ) (s :
           → is_called ≡ is_destination (r.state.progress.address + size) (context_of r.state (mid (forgotten g i.defs))).maps.calls
       told e =
           tells e
-          ∙ sym (ap (λ (k : Put). is_destination (r.state.progress.address + size) (called k r.state.progress.address l.calls)) (first.call ∙ none))
+          ∙ sym (ap (λ (k : Option NewCall). is_destination (r.state.progress.address + size) (called k r.state.progress.address l.calls)) (first.call ∙ none))
 
 pub below : (size : ℕ) {x a : ℕ} → x ≡ a → a + size < 2 ^ 32 → x + size < 2 ^ 32
 below size e h = rw e h
 
 -- the blocks' step with its call in its list
 module _ (o : Options) (code starts : List ℕ) (before mid : Lists) (after : List ℕ) where
-  pub handles-stored : {h : Registers} {r p : Stepped} {a n : ℕ} {k : Put} {step : Step} → k ≡ Nothing
+  pub handles-stored : {h : Registers} {r p : Stepped} {a n : ℕ} {k : Option NewCall} {step : Step} → k ≡ None
       → Comes (has_place a (world_of (given_by o code starts before) h (map_in call_row n before.calls) before)) a k r (world_of (given_by o code starts before) h (map_in call_row n before.calls) mid) step
       → Stores n before.calls after r p → length after ≡ length before.calls
       → Handles (given_by o code starts before) (record { stepped = p; registers = h }) before (calls_at after mid) step
@@ -221,7 +228,7 @@ module _ (i : Ins) (g : Given) (l : Lists) where
   })
 
 module _ (o : Options) (code starts : List ℕ) (i : Ins) (word size : ℕ) (s : State) (g : Registers) (before : Lists) where
-  pub handles-ins : {labels pools jumps inlines after : List ℕ} {r : Handled} {p x : Stepped} → s.call ≡ Nothing
+  pub handles-ins : {labels pools jumps inlines after : List ℕ} {r : Handled} {p x : Stepped} → s.call ≡ None
       → Inner (given_by o code starts before) i word size (headed (s.progress.address + size) s) g before (lists labels pools jumps inlines before.calls) r
       → Stores s.counts.calls before.calls after r.stepped p → length after ≡ length before.calls → x ≡ passes i p
       → Handles (given_by o code starts before) (record { stepped = x; registers = r.registers }) before (lists labels pools jumps inlines after)

@@ -1,21 +1,20 @@
 -- What the code of handle_ins promises, over the five lent lists.
 -- Assumes nothing.
-use Rattle.std.specs.Prelude.{◌≡◌, Bool, true, false, List, [], ◌∷◌, ℕ, length}
+use Rattle.std.specs.Prelude.{◌≡◌, None, Result, Ok, Err, Bool, true, false, List, [], ◌∷◌, ℕ, length}
 use Rattle.arm.specs.declared.Ins.{Ins}
-use Rattle.base.specs.Choice.{pick}
-use Rattle.base.specs.Refusals.{list_full}
+use Rattle.base.specs.declared.refusal.Refusal.TheVariants.{ListFull}
 use Rattle.context.specs.declared.Handled.{Handled}
-use Rattle.context.specs.declared.Put.TheVariants.{Nothing}
 use Rattle.context.specs.declared.State.{State}
 use Rattle.context.specs.declared.Stepped.{Stepped}
+use Rattle.context.specs.declared.Then.{Then}
 use Rattle.context.specs.declared.Then.TheVariants.{Refuses}
 use Rattle.context.specs.Blocks.{handle_ins_inner}
 use Rattle.context.specs.Context.{Context, Given, Step, call_row}
 use Rattle.context.specs.Lists.{Lists, lists, AllHeld, maps_in, places_of}
 use Rattle.context.specs.State.{World, Comes, context_of, read, placed, has_place, putting, counted, count_calls}
 use Rattle.registers.specs.declared.Registers.{Registers}
-use Rattle.rows.specs.declared.Entered.{Entered}
-use Rattle.rows.specs.Map.{map_in, Held, key_of, fits}
+use Rattle.base.specs.declared.refusal.Refusal.{Refusal}
+use Rattle.rows.specs.Map.{map_in, Held, key_of, rows_left, fits}
 use Rattle.rows.specs.Rows.{inserted}
 use Rattle.walk.specs.declared.Options.{Options}
 
@@ -56,7 +55,7 @@ all_in o code starts h x l = record {
 
 -- no call is to be put before a step
 abbrev pub NoCall : State → Type 0
-NoCall s = s.call ≡ Nothing
+NoCall s = s.call ≡ None
 
 abbrev pub calls_of : State → Lists → List (List ℕ)
 calls_of s l = map_in call_row s.counts.calls l.calls
@@ -78,11 +77,15 @@ has_room a count calls = fits call_row (length calls) (inserted key_of (a ∷ []
 abbrev pub calls_at : List ℕ → Lists → Lists
 calls_at calls l = lists l.labels l.pools l.jump_tables l.inline_tables calls
 
--- the code's `with_entry`
-abbrev pub with_entry : Entered → Stepped → Stepped
-with_entry e r = record {
-  then = pick e.full (Refuses list_full 0) r.then;
-  state = putting Nothing (counted (count_calls e.count r.state.counts) r.state);
+abbrev pub then_entered : Result ℕ Refusal → Then → Then
+then_entered (Ok count) then = then
+then_entered (Err refusal) then = Refuses refusal 0
+
+-- the code's `with_entry`, where so many calls were in the list before
+abbrev pub with_entry : ℕ → Result ℕ Refusal → Stepped → Stepped
+with_entry was e r = record {
+  then = then_entered e r.then;
+  state = putting None (counted (count_calls (rows_left e was) r.state.counts) r.state);
 }
 
 -- the call that r puts is in its list, if that has a place, and else p is a refusal
@@ -91,7 +94,7 @@ pub record Stores (count : ℕ) (before after : List ℕ) (r p : Stepped) : Type
   pub counts : p.state.counts ≡ count_calls p.state.counts.calls r.state.counts
   pub says : placed (has_room r.state.progress.address count before) r.state.call ≡ true → (g : Given) (h : Registers) (l : Lists)
       → read p.then (context_in g h p.state (calls_at after l)) ≡ read r.then (context_of r.state (world_of g h (map_in call_row count before) l))
-  pub full : placed (has_room r.state.progress.address count before) r.state.call ≡ false → p.then ≡ Refuses list_full 0
+  pub full : placed (has_room r.state.progress.address count before) r.state.call ≡ false → p.then ≡ Refuses ListFull 0
 
 -- the code came to a step, with all calls in their list
 pub record Handles (g : Given) (r : Handled) (before after : Lists) (step : Step) : Type 0 where

@@ -10,16 +10,15 @@ ghost use Rattle.rows.specs.Map.{Held, map_in};
 ghost use Rattle.handle_ins.specs.Handles.{context_in, NoCall, Inner, with_entry, Stores, Handles};
 
 use arm::Ins;
-use base::refusal::LIST_FULL;
+use base::refusal::Refusal;
 use context::{
-    CALL_ROW, Handled, Put, State, Stepped, asks_calls, assign, in_conditional_block, is_on,
-    load_into, pass,
+    CALL_ROW, Handled, State, Stepped, asks_calls, assign, in_conditional_block, is_on, load_into,
+    pass,
 };
 use handling::{from_return, to_return};
 use registers::Registers;
-use rows::Entered;
 use rows::insert::enter;
-use rows::search::field;
+use rows::search::rows;
 use walk::Options;
 
 // function_calls.values().any(..): one goes to the address.
@@ -27,14 +26,9 @@ fn is_destination(calls: &[u32], count: usize, address: u32) -> bool
     requires { Held call_row count calls.now }
     ensures { result ≡ is_destination address (map_in call_row count calls.now) }
 {
-    let mut i = 0;
-    while i < count {
-        if field(calls, CALL_ROW, count, i, 2) == address {
-            return true;
-        }
-        i += 1;
-    }
-    false
+    rows::<CALL_ROW>(calls, count)
+        .iter()
+        .any(|call| call[2] == address)
 }
 
 // What a return asks of the calls, where it does.
@@ -49,10 +43,7 @@ fn is_called_next(
     requires { Held call_row count calls.now × (s.progress.address + size < 2 ^ 32) }
     ensures { asks_calls size inside returns s.progress ≡ true → result ≡ is_destination (s.progress.address + size) (map_in call_row count calls.now) }
 {
-    if asks_calls(s, size, inside, returns) {
-        return is_destination(calls, count, s.progress.address + size);
-    }
-    false
+    asks_calls(s, size, inside, returns) && is_destination(calls, count, s.progress.address + size)
 }
 
 // The blocks of a step. The call that they put comes back in the state.
@@ -84,7 +75,7 @@ fn handle_ins_inner(
     }
     let t = r.state;
     // for def in ins.defs()
-    let known = registers::forget(held, ins.defs);
+    let known = held.forget(ins.defs);
     let p = t.progress;
     let inside = in_conditional_block(t);
     let returns = predicates::is_return(p.address, ins, p.previous);
@@ -113,33 +104,31 @@ fn handle_ins_inner(
     }
 }
 
-// The step once its call was entered: without a place it is a refusal.
-pub fn with_entry(r: Stepped, e: Entered) -> Stepped
-    ensures { result ≡ with_entry e r }
+// The step once its call was entered in the list, which had `was` before it: without a place it is a refusal.
+pub fn with_entry(r: Stepped, was: usize, entered: Result<usize, Refusal>) -> Stepped
+    ensures { result ≡ with_entry was entered r }
 {
-    let then = r.then;
-    let state = assign::with_call(assign::count_calls(r.state, e.count), Put::Nothing);
-    if e.full {
-        return assign::refuse(state, LIST_FULL);
+    let count = entered.unwrap_or(was);
+    let state = assign::with_call(assign::count_calls(r.state, count), None);
+    match entered {
+        Ok(_) => Stepped { state, ..r },
+        Err(refusal) => assign::refuse(state, refusal),
     }
-    Stepped { then, state }
 }
 
 // The step's call entered in its list, which had `count` before it, where the step has one.
-fn put_call(r: Stepped, count: usize, calls: &mut [u32]) -> Entered
+fn put_call(r: Stepped, count: usize, calls: &mut [u32]) -> Result<usize, Refusal>
     requires { Held call_row count calls.old }
-    ensures { Stores count calls.old calls.new r (with_entry result r) }
+    ensures { Stores count calls.old calls.new r (with_entry count result r) }
 {
     let s = r.state;
     let p = s.progress;
-    let call = s.call;
-    match call {
-        Put::Nothing => Entered { full: false, count },
-        Put::Call {
-            word,
-            destination,
-            mode,
-        } => enter(calls, CALL_ROW, count, [p.address, word, destination, mode]),
+    match s.call {
+        Some(call) => {
+            let row = [p.address, call.word, call.destination, call.mode];
+            enter(calls, CALL_ROW, count, row)
+        }
+        None => Ok(count),
     }
 }
 
@@ -180,9 +169,9 @@ pub fn handle_ins(
     );
     let registers = handled.registers;
     let r = handled.stepped;
-    let e = put_call(r, n.calls, calls);
+    let entered = put_call(r, n.calls, calls);
     Handled {
-        stepped: pass(with_entry(r, e), ins),
+        stepped: pass(with_entry(r, n.calls, entered), ins),
         registers,
     }
 }

@@ -9,9 +9,8 @@ use Rattle.rows.specs.Order.{rising, ascending}
 use Rattle.rows.specs.Map.{key_of, Wide, Held, encode}
 use Rattle.rows.proofs.MapLaws.{encode-held}
 use Rattle.walk.specs.declared.Counts.{Counts}
-use Rattle.walk.specs.declared.KnownEnd.TheVariants.{Nothing}
-use Rattle.context.specs.declared.Put.{Put}
-use Rattle.context.specs.declared.Put.TheVariants.{Nothing as Put-Nothing}
+use Rattle.std.specs.Prelude.{Option, None}
+use Rattle.context.specs.declared.NewCall.{NewCall}
 use Rattle.context.specs.declared.State.{State}
 use Rattle.context.specs.declared.Stepped.{Stepped}
 use Rattle.context.specs.declared.Then.TheVariants.{On, Goes}
@@ -19,14 +18,13 @@ use Rattle.context.specs.Context.{Context, Step, goes, ◌▸◌, label_row, poo
 use Rattle.context.specs.Blocks.{is_destination, skip_pool, mark_pool, forget_written}
 use Rattle.walk.specs.declared.Options.{Options}
 use Rattle.context.specs.declared.Load.{Load}
-use Rattle.context.specs.declared.Load.TheVariants.{Nothing as NoLoad}
 use Rattle.registers.specs.declared.Registers.{Registers}
 use Rattle.context.specs.State.{code_in, starts_in, options_in, labels_in, pools_in, jump_tables_in, inline_tables_in, registers_in, loaded_in, forgotten_by, World, Holds, Settles, Comes, Does, Puts, PutsIf, ToldOfCalls, same, is_on, has_place, context_of}
 use Rattle.context.proofs.Laws.{go-settled, go_on, settled, stop, stop-settled, registers-held}
 
 -- ---- one block after another
 
-module _ {a : ℕ} {k : Put} {r u : Stepped} {w : World} {step : Step} {before after : World → World} (f : Context → Step) where
+module _ {a : ℕ} {k : Option NewCall} {r u : Stepped} {w : World} {step : Step} {before after : World → World} (f : Context → Step) where
   pub then-does : is_on r.then ≡ true → Settles a k r w step → before w ≡ w → Does before after f r.state u
       → Settles a k u (after w) (step ▸ f)
   then-does on t same d =
@@ -82,7 +80,7 @@ some-held k n s =
 abbrev pub standing : List (List ℕ) → List ℕ → List ℕ → List ℕ → List ℕ → World
 standing calls labels pools jumps inlines = record {
   given = record {
-    options = record { base = 0; module_start = 0; module_end = 0; known_end = Nothing; check = false };
+    options = record { base = 0; module_start = 0; module_end = 0; known_end = None; check = false };
     places = record { labels = length labels; pools = length pools; jump_tables = length jumps; inline_tables = length inlines; calls = 0 };
     code = [];
     starts = [];
@@ -109,13 +107,13 @@ stands calls labels pools jumps inlines a b c d = record {
 }
 
 -- the written registers are forgotten behind the block
-pub then-forgets : (i : Ins) {a : ℕ} {k : Put} {r : Stepped} {w : World} {step : Step} → is_on r.then ≡ true → Settles a k r w step
+pub then-forgets : (i : Ins) {a : ℕ} {k : Option NewCall} {r : Stepped} {w : World} {step : Step} → is_on r.then ≡ true → Settles a k r w step
     → Settles a k (record { then = On; state = r.state }) (registers_in (forgotten w.registers i.defs) w) (step ▸ forget_written i)
 unfolding forget_written
 then-forgets i on t = go-settled (forget_written i) on t (record { stays = refl; call = refl; holds = registers-held _ t.holds; says = refl })
 
 -- the last block's context goes on at the next instruction
-pub then-goes : {has : Bool} {a : ℕ} {k : Put} {r : Stepped} {w : World} {step : Step} → is_on r.then ≡ true → Comes has a k r w step
+pub then-goes : {has : Bool} {a : ℕ} {k : Option NewCall} {r : Stepped} {w : World} {step : Step} → is_on r.then ≡ true → Comes has a k r w step
     → Comes has a k (record { then = Goes; state = r.state }) w (step ▸ goes)
 then-goes on t = go_on goes on t (settled (record { stays = refl; call = refl; holds = t.holds; says = refl }))
 
@@ -148,12 +146,12 @@ run x [] = x
 run x (f ∷ fs) = run (x ▸ f) fs
 
 -- the blocks behind one that did not go on
-stop-all-settled : {a : ℕ} {k : Put} {r : Stepped} {l : World} {step : Step} (fs : List (Context → Step)) → is_on r.then ≡ false → Settles a k r l step
+stop-all-settled : {a : ℕ} {k : Option NewCall} {r : Stepped} {l : World} {step : Step} (fs : List (Context → Step)) → is_on r.then ≡ false → Settles a k r l step
     → Settles a k r l (run step fs)
 stop-all-settled [] off t = t
 stop-all-settled (f ∷ fs) off t = stop-all-settled fs off (stop-settled f off t)
 
-stop-all : {has : Bool} {a : ℕ} {k : Put} {r : Stepped} {l : World} {step : Step} (fs : List (Context → Step)) → is_on r.then ≡ false
+stop-all : {has : Bool} {a : ℕ} {k : Option NewCall} {r : Stepped} {l : World} {step : Step} (fs : List (Context → Step)) → is_on r.then ≡ false
     → Comes has a k r l step → Comes has a k r l (run step fs)
 stop-all [] off t = t
 stop-all (f ∷ fs) off t = stop-all fs off (stop f off t)
@@ -249,16 +247,16 @@ abbrev pub Comes-from : Entry → (World → World) → (Context → Step) → S
 Comes-from e after f r =
     PutsIf (ToldOfCalls e.size e.inside e.returns e.called e.state) (lent e e.labels e.pools e.inlines) after f e.state r
 
-pub record From (e : Entry) (f : Context → Step) (m p n : List ℕ) (load : Load) (r : Stepped) : Type 0 where
+pub record From (e : Entry) (f : Context → Step) (m p n : List ℕ) (load : Option Load) (r : Stepped) : Type 0 where
   pub does : Comes-from e (λ l. loaded_in load (lent e m p n l)) f r
 
 pub from_first : (e : Entry) (f : Context → Step) {r : Stepped}
     → PutsIf (ToldOfCalls e.size e.inside e.returns e.called e.state) (λ l. code_in e.code (options_in e.options l))
     (λ l. code_in e.code (options_in e.options l)) f e.state r
-    → From e f e.labels e.pools e.inlines NoLoad r
+    → From e f e.labels e.pools e.inlines None r
 from_first e f d = record { does = λ l told h. d (lent e e.labels e.pools e.inlines l) told h }
 
-module _ {e : Entry} {r : Stepped} {f : Context → Step} {m p n : List ℕ} {load : Load} (t : From e f m p n load r) where
+module _ {e : Entry} {r : Stepped} {f : Context → Step} {m p n : List ℕ} {load : Option Load} (t : From e f m p n load r) where
   module _ {u : Stepped} (on : is_on r.then ≡ true) (g : Context → Step) where
     pub from-alone : Does same same g r.state u → From e (λ c. f c ▸ g) m p n load u
     from-alone d = record { does = λ l told h. then_may g on (t.does l told h) refl d }
@@ -286,7 +284,7 @@ module _ {e : Entry} {r : Stepped} {f : Context → Step} {m p n : List ℕ} {lo
 
   -- what the next block requires
   pub from-held : Held label_row e.state.counts.labels e.labels → Held pool_row e.state.counts.pools e.pools
-      → Held table_row e.state.counts.inline_tables e.inlines → e.state.call ≡ Put-Nothing
+      → Held table_row e.state.counts.inline_tables e.inlines → e.state.call ≡ None
       → Held label_row r.state.counts.labels m × Held pool_row r.state.counts.pools p × Held table_row r.state.counts.inline_tables n
       × (r.state.progress.address ≡ e.state.progress.address)
   from-held a b c none =
@@ -300,7 +298,7 @@ module _ {e : Entry} {r : Stepped} {f : Context → Step} {m p n : List ℕ} {lo
       (end.holds.labels, end.holds.pools, end.holds.inline_tables, end.stays)
 
 module _ {e : Entry} {r u : Stepped} {f : Context → Step} {m p n after : List ℕ} where
-  pub from-pools : From e f m p n NoLoad r → is_on r.then ≡ true → (g : Context → Step) (load : Load)
+  pub from-pools : From e f m p n None r → is_on r.then ≡ true → (g : Context → Step) (load : Option Load)
       → Does (λ l. code_in e.code (options_in e.options (pools_in p l))) (λ l. loaded_in load (code_in e.code (options_in e.options (pools_in after l)))) g r.state u
       → From e (λ c. f c ▸ g) m after n load u
   from-pools t on g load d = record { does = λ l told h. then_may g on (t.does l told h) refl d }

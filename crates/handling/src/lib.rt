@@ -3,7 +3,7 @@
 // the state.
 #![tactic(auto)]
 
-ghost use Rattle.std.specs.Prelude.{◌≡◌, ◌+◌, ◌<◌, ◌^◌, length};
+ghost use Rattle.std.specs.Prelude.{◌≡◌, None, ◌+◌, ◌<◌, ◌^◌, length};
 ghost use Rattle.rows.specs.Map.{Held};
 ghost use Rattle.context.specs.Context.{label_row, pool_row, table_row};
 ghost use Rattle.context.specs.Blocks.{to_return, from_return};
@@ -11,7 +11,7 @@ ghost use Rattle.context.specs.State.{Does, PutsIf, ToldOfCalls, registers_in, f
 
 use arm::Ins;
 use branches::{branch, branch_outside, entry_after_branch, final_return, function_call};
-use context::{Load, Loaded, Put, State, Stepped, assign, is_on};
+use context::{Loaded, State, Stepped, assign, is_on};
 use registers::Registers;
 use tables::{inline_table, jump_table, skip_inline_table, skip_pool};
 use values::{check_defined, illegal_code, mark_pool, pool_load};
@@ -70,28 +70,28 @@ pub fn from_return(
     pools: &mut [u32],
     inline_tables: &mut [u32],
 ) -> Loaded
-    requires { Held 1 (length starts.now) starts.now × Held label_row s.counts.labels labels.old × Held pool_row s.counts.pools pools.old × Held table_row s.counts.inline_tables inline_tables.old × (s.progress.address + size < 2 ^ 32) × (s.call ≡ Put.Nothing) }
+    requires { Held 1 (length starts.now) starts.now × Held label_row s.counts.labels labels.old × Held pool_row s.counts.pools pools.old × Held table_row s.counts.inline_tables inline_tables.old × (s.progress.address + size < 2 ^ 32) × (s.call ≡ None) }
     ensures { PutsIf (ToldOfCalls size inside returns is_called_next s) (λ l. code_in code.now (starts_in starts.now (options_in o (labels_in labels.old (pools_in pools.old (inline_tables_in inline_tables.old l)))))) (λ l. loaded_in result.load (code_in code.now (starts_in starts.now (options_in o (labels_in labels.new (pools_in pools.new (inline_tables_in inline_tables.new l))))))) (from_return ins word size inside returns) s result.stepped }
 {
     let r1 = final_return(o, s, word, size, ins, inside, returns, is_called_next, code);
     if !is_on(r1) {
         return Loaded {
             stepped: r1,
-            load: Load::Nothing,
+            load: None,
         };
     }
     let r2 = entry_after_branch(r1.state, ins, inside);
     if !is_on(r2) {
         return Loaded {
             stepped: r2,
-            load: Load::Nothing,
+            load: None,
         };
     }
     let r3 = branch(o, r2.state, word, size, ins, inside, starts, labels, pools);
     if !is_on(r3) {
         return Loaded {
             stepped: r3,
-            load: Load::Nothing,
+            load: None,
         };
     }
     let loaded = pool_load(o, r3.state, ins, code, pools);

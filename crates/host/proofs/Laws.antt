@@ -3,7 +3,9 @@
 use Rattle.base.proofs.Prelude.{◌∙◌, sym, refl, ◌≡◌, ap, false, true, Bool, List, [], ◌≤◌, ℕ, ◌+◌, ◌%◌, arith, eqb, leb, length, eq-eqb, ne_eqb}
 use Rattle.base.proofs.Prelude.{eqb-true, eqb-false}
 use Rattle.base.specs.Choice.{pick, both}
-use Rattle.base.specs.Refusals.{bad_lists}
+use Rattle.std.specs.Prelude.{Result, Ok, Err}
+use Rattle.base.specs.declared.refusal.Refusal.{Refusal}
+use Rattle.base.specs.declared.refusal.Refusal.TheVariants.{BadWindow, BadStart, UnalignedStart, BadLists}
 use Rattle.calls.specs.declared.Call.{Call}
 use Rattle.calls.specs.declared.Told.{Told}
 use Rattle.calls.specs.Records.{numbers_of, edited, clearing, none}
@@ -19,10 +21,10 @@ use Rattle.turn_told.specs.declared.Looked.{Looked}
 use Rattle.turn_told.specs.Told.{others, with_calls, OthersHeld, turn_in, TellsAt, Edits}
 use Rattle.turn_told.proofs.Laws.{unedited}
 use Rattle.stepper.specs.declared.Answered.{Answered}
-use Rattle.stepper.specs.Stepper.{After, Called, is_going, refused, begin, step}
+use Rattle.stepper.specs.Stepper.{Called, is_going, refused, begin, step, begin_where}
 use Rattle.stepper.proofs.Laws.{called-turned, turn-may as may-turn}
 use Rattle.turn.specs.Turning.{Turns}
-use Rattle.validity.specs.Validity.{high, is_window, is_in_code, are_starts, are_pools, step_number, begin_number, are_lists, are_in_order}
+use Rattle.validity.specs.Validity.{high, is_window, is_in_code, are_starts, are_pools, step_check, begin_check, are_lists, are_in_order}
 use Rattle.walk.specs.declared.Answer.{Answer}
 use Rattle.walk.specs.declared.Answer.TheVariants.{Going}
 use Rattle.walk.specs.declared.Counts.{Counts}
@@ -30,7 +32,7 @@ use Rattle.walk.specs.declared.Options.{Options}
 use Rattle.walk.specs.declared.Walk.{Walk}
 use Rattle.walk.specs.IntoFunction.{begun}
 use Rattle.host.specs.declared.told.Done.{Done}
-use Rattle.host.specs.Told.{without_calls, number_told, leaving}
+use Rattle.host.specs.Told.{without_calls, check_told, leaving}
 
 -- lists that are the same but for their calls
 same-calls : (l : Lists) {m : Lists} {calls x y : List ℕ} → calls_at calls l ≡ m → x ≡ y → calls_at x l ≡ calls_at y m
@@ -38,13 +40,14 @@ same-calls l {m} {calls} {x} {y} e f = rw f (ap (calls_at y) e)
 
 -- ---- the checks
 
--- the number by its tests, of which k is the calls'
-abbrev numbered : Bool → Bool → Bool → Bool → Bool → Bool → Bool → Bool → Bool → Bool → ℕ
-numbered window start aligned starts a b c d pools k =
-    pick window (pick start (pick aligned (pick (both starts (both (both a (both b (both c (both d k)))) pools)) 0 4) 3) 2) 1
+-- the check by its tests, of which k is the calls'
+abbrev checked : Bool → Bool → Bool → Bool → Bool → Bool → Bool → Bool → Bool → Bool → Result (Unit {0}) Refusal
+checked window start aligned starts a b c d pools k =
+    pick window (pick start (pick aligned (pick (both starts (both (both a (both b (both c (both d k)))) pools)) (Ok tt) (Err BadLists))
+    (Err UnalignedStart)) (Err BadStart)) (Err BadWindow)
 
 -- the calls' test decides where the others pass
-calls_last : (w s g t a b c d p k : Bool) → numbered w s g t a b c d p k ≡ number_told (numbered w s g t a b c d p true) k
+calls_last : (w s g t a b c d p k : Bool) → checked w s g t a b c d p k ≡ check_told (checked w s g t a b c d p true) k
 calls_last false s g t a b c d p k = refl
 calls_last true false g t a b c d p k = refl
 calls_last true true false t a b c d p k = refl
@@ -62,10 +65,10 @@ none-ordered : in_order call_row 0 [] ≡ true
 unfolding in_order map_in ascending zeros
 none-ordered = refl
 
-number_is : (o : Options) (long : ℕ) (starts : List ℕ) (w : Walk) (a b c d calls : List ℕ) {ordered : Bool} → ordered ≡ in_order call_row w.counts.calls calls
-    → step_number o long starts w (calls_at calls (others a b c d)) ≡ number_told (step_number o long starts (without_calls w) (others a b c d)) ordered
-unfolding step_number are_lists are_in_order
-number_is o long starts w a b c d calls k =
+check_is : (o : Options) (long : ℕ) (starts : List ℕ) (w : Walk) (a b c d calls : List ℕ) {ordered : Bool} → ordered ≡ in_order call_row w.counts.calls calls
+    → step_check o long starts w (calls_at calls (others a b c d)) ≡ check_told (step_check o long starts (without_calls w) (others a b c d)) ordered
+unfolding step_check are_lists are_in_order
+check_is o long starts w a b c d calls k =
     rw (k, none-ordered)
     (calls_last (is_window o long) (both (is_in_code o.base long w.progress.start) (leb o.base w.progress.address))
     (eqb (w.progress.start % 4) 0) (are_starts starts)
@@ -76,14 +79,11 @@ number_is o long starts w a b c d calls k =
 
 -- ---- a step
 
--- a number that is 0 passed both
-told-passed : (n : ℕ) (ordered : Bool) → number_told n ordered ≡ 0 → (n ≡ 0) × (ordered ≡ true)
-told-passed n ordered e = step (eqb n 0) ordered refl e
-  where
-    step : (b k : Bool) → eqb n 0 ≡ b → pick b (pick k 0 bad_lists) n ≡ 0 → (n ≡ 0) × (k ≡ true)
-    step true true z q = (eqb-true n 0 z, refl)
-    step true false z q = absurd (omega arith)
-    step false k z q = absurd (eqb-false n 0 z q)
+-- what passes passed both
+told-passed : (other : Result (Unit {0}) Refusal) (ordered : Bool) → check_told other ordered ≡ Ok tt → (other ≡ Ok tt) × (ordered ≡ true)
+told-passed (Ok t) true e = (refl, refl)
+told-passed (Ok t) false e = cc
+told-passed (Err refusal) ordered e = cc
 
 module _ (o : Options) (code starts : List ℕ) (w : Walk) (told : Told) where
   pub step-ended : {d : Done} {l : Lists} → is_going w.result ≡ false → d ≡ leaving w w.result (clearing 0)
@@ -91,18 +91,18 @@ module _ (o : Options) (code starts : List ℕ) (w : Walk) (told : Told) where
   unfolding step
   step-ended ends is = rw is (unedited (λ calls t. rw ends (record { walks = refl; answers = refl; holds = refl })))
 
-  module _ (a b c d : List ℕ) {v : Walk} {other n : ℕ} (goes : is_going w.result ≡ true) (without : v ≡ without_calls w)
-      (says : other ≡ step_number o (length code) starts v (others a b c d)) (is : n ≡ number_told other told.is_ordered) where
-    number_at : (calls : List Call) → TellsAt w told calls → step_number o (length code) starts w (with_calls (others a b c d) calls) ≡ n
-    number_at calls t = number_is o (length code) starts w a b c d (numbers_of calls) t.ordered ∙ rw (is, says, without)
+  module _ (a b c d : List ℕ) {v : Walk} {other check : Result (Unit {0}) Refusal} (goes : is_going w.result ≡ true) (without : v ≡ without_calls w)
+      (says : other ≡ step_check o (length code) starts v (others a b c d)) (is : check ≡ check_told other told.is_ordered) where
+    check_at : (calls : List Call) → TellsAt w told calls → step_check o (length code) starts w (with_calls (others a b c d) calls) ≡ check
+    check_at calls t = check_is o (length code) starts w a b c d (numbers_of calls) t.ordered ∙ rw (is, says, without)
 
-    pub step-refused : {answer : Answer} {x : Done} → (n ≡ 0 → ⊥) → answer ≡ refused n → x ≡ leaving w answer (clearing 0)
+    pub step-refused : {refusal : Refusal} {answer : Answer} {x : Done} → check ≡ Err refusal → answer ≡ refused refusal → x ≡ leaving w answer (clearing 0)
         → Edits x.edit (TellsAt w told) (others a b c d) (others a b c d) (λ l m. Called x.answered m (step o code starts w l))
     unfolding step
     step-refused fails answers stays =
-        rw stays (unedited (λ calls t. rw (goes, number_at calls t, ne_eqb n 0 fails) (record { walks = refl; answers = answers; holds = refl })))
+        rw stays (unedited (λ calls t. rw (goes, check_at calls t, fails) (record { walks = refl; answers = answers; holds = refl })))
 
-    module _ (passes : n ≡ 0) where
+    module _ (passes : check ≡ Ok tt) where
       pub turn-may : (o.base + length code ≤ high) × Held 1 (length starts) starts × OthersHeld w.counts (others a b c d) × (told.is_ordered ≡ true)
       turn-may =
           let passed = told-passed other told.is_ordered (sym is ∙ passes) in
@@ -114,33 +114,26 @@ module _ (o : Options) (code starts : List ℕ) (w : Walk) (told : Told) where
           → y ≡ leaving x.walk x.walk.result x.edit
           → Edits y.edit (TellsAt w told) (others a b c d) after (λ l m. Called y.answered m (step o code starts w l))
       unfolding step
-      step-turned h is = rw is (record { does = λ calls t. rw (goes, number_at calls t, eq-eqb n 0 passes) (called-turned (h.does calls t)) })
+      step-turned h is = rw is (record { does = λ calls t. rw (goes, check_at calls t, passes) (called-turned (h.does calls t)) })
 
 -- ---- begin
 
 module _ (o : Options) (start : ℕ) (code starts : List ℕ) (n : Counts) (before after : Lists) {e' : List ℕ} {r : Answered}
     (w : Called r (calls_at e' after) (begin o start code starts n before)) where
-  abbrev going : Lists → After
-  going l = record { walk = begun start (counts_of no_maps); lists = zeroed l; answer = Going }
-
-  abbrev staying : Lists → After
-  staying l = record { walk = begun start n; lists = l; answer = refused (begin_number o start (length code) starts) }
-
   -- the lists but for the calls, and the records that are zeroed where the walk goes on
   pub begins : {places : ℕ} {d : Done} → d ≡ leaving r.walk r.answer (clearing (pick (is_going r.answer) places 0))
       → Edits d.edit (λ calls. places ≡ length calls) before after (λ l m. Called d.answered m (begin o start code starts n l))
   unfolding begin
-  begins {places} is = rw is (record { does = λ calls many. step calls many (eqb (begin_number o start (length code) starts) 0) w })
+  begins {places} is = rw is (record { does = λ calls many. step calls many (begin_check o start (length code) starts) w })
     where
-      step : (calls : List Call) → places ≡ length calls → (p : Bool) → Called r (calls_at e' after) (pick p (going before) (staying before))
-          → Called r (with_calls after (edited (clearing (pick (is_going r.answer) places 0)) calls))
-          (pick p (going (with_calls before calls)) (staying (with_calls before calls)))
-      step calls many true v = record {
+      step : (calls : List Call) → places ≡ length calls → (p : Result (Unit {0}) Refusal) → Called r (calls_at e' after) (begin_where start n before p)
+          → Called r (with_calls after (edited (clearing (pick (is_going r.answer) places 0)) calls)) (begin_where start n (with_calls before calls) p)
+      step calls many (Ok t) v = record {
         walks = v.walks;
         answers = v.answers;
         holds = same-calls after v.holds (rw (ap is_going v.answers, many) (cleared calls ∙ zeros-encode _));
       }
-      step calls many false v = record {
+      step calls many (Err refusal) v = record {
         walks = v.walks;
         answers = v.answers;
         holds = same-calls after v.holds (rw (ap is_going v.answers, rewritten-none false none 0 calls));

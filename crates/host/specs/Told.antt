@@ -1,8 +1,9 @@
 -- The lists of a host that lends its calls as records, the checks, and what a call leaves.
 -- Assumes nothing.
-use Rattle.std.specs.Prelude.{Bool, List, ℕ, eqb}
+use Rattle.std.specs.Prelude.{Bool, List, ℕ, Result, Ok, Err}
 use Rattle.base.specs.Choice.{pick}
-use Rattle.base.specs.Refusals.{bad_lists}
+use Rattle.base.specs.declared.refusal.Refusal.{Refusal}
+use Rattle.base.specs.declared.refusal.Refusal.TheVariants.{BadLists}
 use Rattle.calls.specs.declared.Call.{Call}
 use Rattle.calls.specs.declared.Edit.{Edit}
 use Rattle.context.specs.Lists.{Lists}
@@ -21,9 +22,10 @@ lists_with labels pools jumps inlines calls = with_calls (others labels pools ju
 abbrev pub without_calls : Walk → Walk
 without_calls w = with_counts (count_calls 0 w.counts) w
 
--- 1 to 4: the number of the checks that ask nothing of the calls, and then theirs
-abbrev pub number_told : ℕ → Bool → ℕ
-number_told number ordered = pick (eqb number 0) (pick ordered 0 bad_lists) number
+-- the first four refusals: the checks that ask nothing of the calls, and then theirs
+abbrev pub check_told : Result (Unit {0}) Refusal → Bool → Result (Unit {0}) Refusal
+check_told (Ok t) ordered = pick ordered (Ok tt) (Err BadLists)
+check_told (Err refusal) ordered = Err refusal
 
 -- what a call answers, and the change that it leaves to do
 abbrev pub leaving : Walk → Answer → Edit → Done

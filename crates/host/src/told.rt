@@ -5,9 +5,9 @@ ghost use Rattle.base.specs.Choice.{pick};
 ghost use Rattle.calls.specs.Records.{clearing};
 ghost use Rattle.turn_told.specs.Told.{others, TellsAt, Edits};
 ghost use Rattle.stepper.specs.Stepper.{Called, is_going, begin, step};
-ghost use Rattle.host.specs.Told.{without_calls, number_told, leaving};
+ghost use Rattle.host.specs.Told.{without_calls, check_told, leaving};
 
-use base::refusal::BAD_LISTS;
+use base::refusal::Refusal;
 use calls::{Edit, Told, clear};
 use stepper::{Answered, is_going, refused};
 use turn_told::{Looked, turn};
@@ -43,17 +43,16 @@ fn leave(looked: Looked) -> Done
     }
 }
 
-// The number of the checks 1 to 4: of those that ask nothing of the calls, and then of theirs.
-fn number_told(number: u8, is_ordered: bool) -> u8
-    ensures { result ≡ number_told number is_ordered }
+// The first four refusals: the checks that ask nothing of the calls, and then theirs.
+fn check_told(other: Result<(), Refusal>, is_ordered: bool) -> Result<(), Refusal>
+    ensures { result ≡ check_told other is_ordered }
 {
-    if number != 0 {
-        return number;
-    }
+    other?;
     if is_ordered {
-        return 0;
+        Ok(())
+    } else {
+        Err(Refusal::BadLists)
     }
-    BAD_LISTS
 }
 
 fn without_calls(w: Walk) -> Walk
@@ -94,9 +93,8 @@ pub fn step(
         inline_tables,
         &none,
     );
-    let number = number_told(other, told.is_ordered);
-    if number != 0 {
-        return stay(w, refused(number));
+    if let Err(refusal) = check_told(other, told.is_ordered) {
+        return stay(w, refused(refusal));
     }
     leave(turn(
         o,

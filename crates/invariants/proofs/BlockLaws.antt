@@ -2,23 +2,18 @@
 -- Assumes nothing.
 use Rattle.base.proofs.Prelude.{refl, ◌≡◌, ap, false, true, Bool, not, List, [], ◌∷◌, inr, inl, ◌⊎◌, some, none, Option, ◌≤◌, ℕ, ◌+◌, ◌<◌, suc, arith}
 use Rattle.base.proofs.Prelude.{le_of_suc-le-suc, eqb, ltb, length, get_or, ltb-true, ltb-false}
+use Rattle.std.specs.Prelude.{Option as Optional, Some, None, Result, Ok, Err}
+use Rattle.base.specs.declared.refusal.Refusal.{Refusal}
+use Rattle.base.specs.declared.refusal.Refusal.{Refusal}
 use Rattle.analysis.specs.declared.illegal_code.IllegalCodeState.{IllegalCodeState}
 use Rattle.analysis.specs.declared.illegal_code.IllegalCodeState.TheVariants.{Start, ShiftedRegisterValue, Illegal}
-use Rattle.analysis.specs.declared.inline_table.InlineTableAnswer.{InlineTableAnswer}
-use Rattle.analysis.specs.declared.inline_table.InlineTableAnswer.TheVariants.{Next as T-Next, Refused as T-Refused}
-use Rattle.analysis.specs.declared.inline_table.FoundTable.{FoundTable}
-use Rattle.analysis.specs.declared.inline_table.FoundTable.TheVariants.{Table, Nothing as No-Table}
-use Rattle.analysis.specs.declared.jump_table.JumpTableAnswer.{JumpTableAnswer}
-use Rattle.analysis.specs.declared.jump_table.JumpTableAnswer.TheVariants.{Next as J-Next, Found as J-Found, Refused as J-Refused}
-use Rattle.analysis.specs.declared.jump_table.TableEnd.{TableEnd}
-use Rattle.analysis.specs.declared.jump_table.TableEnd.TheVariants.{At as E-At, Nothing as E-Nothing, Refused as E-Refused}
+use Rattle.analysis.specs.declared.inline_table.InlineTable.{InlineTable}
+use Rattle.analysis.specs.declared.inline_table.InlineTableState.{InlineTableState}
 use Rattle.analysis.specs.IllegalCode.{illegal_code as code_machine}
 use Rattle.analysis.specs.InlineTable.{inline_table as inline_machine, table_of}
-use Rattle.analysis.specs.JumpTable.{jump_table as jump_machine, table_end}
+use Rattle.analysis.specs.JumpTable.{Answer, jump_table as jump_machine, table_end}
 use Rattle.arm.specs.declared.Ins.{Ins}
 use Rattle.arm.specs.Ins.{is_conditional}
-use Rattle.base.specs.declared.word.Word.{Word}
-use Rattle.base.specs.declared.word.Word.TheVariants.{Found as W-Found, Missing}
 use Rattle.base.specs.Choice.{pick, both, either}
 use Rattle.base.specs.Words.{word_from}
 use Rattle.context.specs.Blocks.{other, skip_pool, skip_inline_table, inline_table_at, table_end_at, jump_table, after_jump, raised_to_table, illegal_code}
@@ -30,17 +25,13 @@ use Rattle.context.specs.Blocks.{function_call, check_defined, is_in, from_retur
 use Rattle.context.specs.Context.{Context, Maps, Step, on, goes, ends, refuses, ◌▸◌, going_to, with_progress, with_machines, with_registers, with_maps}
 use Rattle.context.specs.Context.{raising, table_to, pool_to, defining, moving, labels_to, pools_to, jump_tables_to, inline_tables_to, calls_to, label_row}
 use Rattle.context.specs.Context.{pool_row, table_row, call_row}
-use Rattle.predicates.specs.declared.Callee.{Callee}
-use Rattle.predicates.specs.declared.Callee.TheVariants.{Nothing as No-Call, Arm, Thumb}
+use Rattle.predicates.specs.declared.Mode.{Mode}
+use Rattle.predicates.specs.declared.Mode.TheVariants.{Arm, Thumb}
 use Rattle.predicates.specs.Predicates.{is_branch, is_bx, is_return, is_entry_instruction, is_pool_load, pool_address, called_by, as_previous}
 use Rattle.registers.specs.Registers.{forgotten, holding, source_of}
 use Rattle.rows.specs.Rows.{rank, inserted}
 use Rattle.rows.specs.Map.{key_of, stands-in, at_or_above, fits}
 use Rattle.rows.specs.Run.{gap_from}
-use Rattle.rows.specs.declared.Found.{Found}
-use Rattle.rows.specs.declared.Found.TheVariants.{At as F-At, Missing as F-Missing}
-use Rattle.rows.specs.declared.Gap.{Gap}
-use Rattle.rows.specs.declared.Gap.TheVariants.{At as G-At, Beyond as G-Beyond}
 use Rattle.rows.proofs.RunLaws.{gap_at}
 use Rattle.base.proofs.ChoiceLaws.{both_first, both-second}
 use Rattle.walk.specs.declared.Counts.{Counts}
@@ -52,7 +43,7 @@ pub data Meets (P G : Context → Type 0) (E : ℕ → Context → Type 0) : Ste
   is-on : {c : Context} → P c → Meets P G E (on c)
   has-gone : {c : Context} → G c → Meets P G E (goes c)
   has_ended : {a : ℕ} {c : Context} → E a c → Meets P G E (ends a c)
-  is-refused : {n r : ℕ} → Meets P G E (refuses n r)
+  is-refused : {n : Refusal} {r : ℕ} → Meets P G E (refuses n r)
 
 module _ {P Q G : Context → Type 0} {E : ℕ → Context → Type 0} where
   -- blocks that come to P, and then one from P to Q
@@ -97,7 +88,7 @@ pub record Kept (i : Ins) (size : ℕ) (P G : Context → Type 0) (E : ℕ → C
   pub jump_tables : Enters P table_row (λ n. n.jump_tables) (λ m. m.jump_tables) jump_tables_to
   pub inline_tables : Enters P table_row (λ n. n.inline_tables) (λ m. m.inline_tables) inline_tables_to
   pub calls : Enters P call_row (λ n. n.calls) (λ m. m.calls) calls_to
-  pub loads : (a value : ℕ) (c : Context) → word_from c.given.code c.given.options.base a ≡ W-Found value
+  pub loads : (a value : ℕ) (c : Context) → word_from c.given.code c.given.options.base a ≡ Some value
       → fits pool_row c.given.places.pools (inserted key_of (a ∷ value ∷ other ∷ []) c.maps.pools) ≡ true
       → P c → P (loaded_from i a value c)
   pub goes : (c : Context) → P c → G c
@@ -122,11 +113,11 @@ rank-above x (r ∷ rs) h = step (ltb (key_of r) x) refl (rank-above x rs) h
     step true e next l = next (le_of_suc-le-suc l)
     step false e next l = omega (arith, ltb-false)
 
-pub label-above : (x : ℕ) (m : List (List ℕ)) (k : ℕ) → at_or_above x m ≡ F-At k → x ≤ key_of (get_or m k [])
+pub label-above : (x : ℕ) (m : List (List ℕ)) (k : ℕ) → at_or_above x m ≡ Some k → x ≤ key_of (get_or m k [])
 unfolding at_or_above
 label-above x m k e = step (ltb (rank key_of x m) (length m)) refl e
   where
-    step : (b : Bool) → ltb (rank key_of x m) (length m) ≡ b → pick b (F-At (rank key_of x m)) F-Missing ≡ F-At k → x ≤ key_of (get_or m k [])
+    step : (b : Bool) → ltb (rank key_of x m) (length m) ≡ b → pick b (Some (rank key_of x m)) None ≡ Some k → x ≤ key_of (get_or m k [])
     step true f e = let same : rank key_of x m ≡ k = cc in rw same at (rank-above x m (ltb-true _ _ f))
     step false f e = let z : ◌≡◌ {A = ℕ} 0 1 = cc in absurd (omega arith)
 
@@ -156,18 +147,18 @@ module _ (i : Ins) (size : ℕ) (P G : Context → Type 0) (E : ℕ → Context 
       step false e none f = rw f (is-on p)
       step false e (some t) f = rw f (chosen (ltb (table_end_at t) 0x1_0000_0000) (λ _. has-gone (g _ (table t f))) (λ _. is-refused))
 
-  raised-kept : (t : TableEnd) (c : Context) → P c → Meet (raised_to_table t c)
-  raised-kept (E-At end) c p = is-on (k.tables end _ (k.raises end c p))
-  raised-kept E-Nothing c p = is-on p
-  raised-kept E-Refused c p = is-refused
+  raised-kept : (t : Result (Optional ℕ) Refusal) (c : Context) → P c → Meet (raised_to_table t c)
+  raised-kept (Ok (Some end)) c p = is-on (k.tables end _ (k.raises end c p))
+  raised-kept (Ok None) c p = is-on p
+  raised-kept (Err r) c p = is-refused
 
-  jump_kept : (a : JumpTableAnswer) (c : Context) → P c → Meet (after_jump i a c)
-  jump_kept (J-Next s) c p = raised-kept (table_end s) _ (k.machines _ c p)
-  jump_kept (J-Found s t) c p =
+  jump_kept : (a : Answer) (c : Context) → P c → Meet (after_jump i a c)
+  jump_kept (Ok (s, None)) c p = raised-kept (table_end s) _ (k.machines _ c p)
+  jump_kept (Ok (s, Some t)) c p =
       chained
       (chosen _ (λ e. is-on (k.jump_tables (t.address ∷ t.size ∷ []) _ refl e (k.machines _ c p))) (λ _. is-refused))
       (raised-kept (table_end s))
-  jump_kept J-Refused c p = is-refused
+  jump_kept (Err r) c p = is-refused
 
   jump_table-kept : (c : Context) → P c → Meet (jump_table i c)
   unfolding jump_table
@@ -224,12 +215,12 @@ module _ (i : Ins) (size : ℕ) (P G : Context → Type 0) (E : ℕ → Context 
       (λ e. has_ended (k.entry (both_first (is_entry_instruction i) _ (both-second (ltb c.progress.start c.progress.address) _ e)) c p))
       (λ _. is-on p)
 
-  load_kept : (a : ℕ) (w : Word) (c : Context) → word_from c.given.code c.given.options.base a ≡ w → P c → Meet (loaded i a w c)
-  load_kept a (W-Found value) c e p =
+  load_kept : (a : ℕ) (w : Optional ℕ) (c : Context) → word_from c.given.code c.given.options.base a ≡ w → P c → Meet (loaded i a w c)
+  load_kept a (Some value) c e p =
       chained {P = λ d. P (with_progress (pool_to a d.progress) d)}
       (chosen _ (λ f. is-on (k.loads a value c e f p)) (λ _. is-refused))
       (λ d q. is-on q)
-  load_kept a Missing c e p = is-refused
+  load_kept a None c e p = is-refused
 
   pool_load-kept : (c : Context) → P c → Meet (pool_load i c)
   unfolding pool_load
@@ -237,22 +228,22 @@ module _ (i : Ins) (size : ℕ) (P G : Context → Type 0) (E : ℕ → Context 
       let a = pool_address c.progress.address i in
       chosen (is_pool_load i) (λ _. load_kept a (word_from c.given.code c.given.options.base a) c refl p) (λ _. is-on p)
 
-  table_kept : (t : FoundTable) (c : Context) → P c → Meet (tabled t c)
-  table_kept (Table t) c p = chosen _ (λ e. is-on (k.inline_tables (t.address ∷ t.size ∷ []) c refl e p)) (λ _. is-refused)
-  table_kept No-Table c p = is-on p
+  table_kept : (t : Optional InlineTable) (c : Context) → P c → Meet (tabled t c)
+  table_kept (Some t) c p = chosen _ (λ e. is-on (k.inline_tables (t.address ∷ t.size ∷ []) c refl e p)) (λ _. is-refused)
+  table_kept None c p = is-on p
 
-  inline-kept : (a : InlineTableAnswer) (c : Context) → P c → Meet (after_inline i a c)
-  inline-kept (T-Next s) c p = table_kept (table_of s) _ (k.machines _ c p)
-  inline-kept T-Refused c p = is-refused
+  inline-kept : (a : Result InlineTableState Refusal) (c : Context) → P c → Meet (after_inline i a c)
+  inline-kept (Ok s) c p = table_kept (table_of s) _ (k.machines _ c p)
+  inline-kept (Err r) c p = is-refused
 
   inline_table-kept : (c : Context) → P c → Meet (inline_table i c)
   unfolding inline_table
   inline_table-kept c p = inline-kept (inline_machine c.machines.inline_table false c.progress.address i) c p
 
-  called-kept : (word : ℕ) (f : Callee) (c : Context) → P c → Meet (called_as i word f c)
-  called-kept word No-Call c p = is-on p
-  called-kept word Arm c p = call_kept word arm c p
-  called-kept word Thumb c p = call_kept word thumb c p
+  called-kept : (word : ℕ) (f : Optional Mode) (c : Context) → P c → Meet (called_as i word f c)
+  called-kept word None c p = is-on p
+  called-kept word (Some Arm) c p = call_kept word arm c p
+  called-kept word (Some Thumb) c p = call_kept word thumb c p
 
   function_call-kept : (word : ℕ) (c : Context) → P c → Meet (function_call i word c)
   unfolding function_call
@@ -285,13 +276,13 @@ module _ (i : Ins) (size : ℕ) (P G : Context → Type 0) (E : ℕ → Context 
   abbrev Comes : Step → Type 0
   Comes s = Meets P G E s
 
-  gap-kept : (g : Gap) (c : Context) → gap_from (stands-in c.maps.pools) (c.progress.address + size) ≡ g → P c → Comes (past_gap g c)
-  gap-kept (G-At n) c e p = is-on (jumps n c (inr (omega (arith, (gap_at _ _ n e).is))) p)
-  gap-kept G-Beyond c e p = is-refused
+  gap-kept : (g : Optional ℕ) (c : Context) → gap_from (stands-in c.maps.pools) (c.progress.address + size) ≡ g → P c → Comes (past_gap g c)
+  gap-kept (Some n) c e p = is-on (jumps n c (inr (omega (arith, (gap_at _ _ n e).is))) p)
+  gap-kept None c e p = is-refused
 
-  label_kept : (f : Found) (c : Context) → at_or_above c.next c.maps.labels ≡ f → P c → Comes (to_label i size f c)
-  label_kept (F-At n) c e p = is-on (jumps _ c (inl (label-above c.next c.maps.labels n e)) p)
-  label_kept F-Missing c e p =
+  label_kept : (f : Optional ℕ) (c : Context) → at_or_above c.next c.maps.labels ≡ f → P c → Comes (to_label i size f c)
+  label_kept (Some n) c e p = is-on (jumps _ c (inl (label-above c.next c.maps.labels n e)) p)
+  label_kept None c e p =
       chosen (ltb c.progress.address i.target)
       (λ _. has_ended (k.ends c p))
       (λ _. gap-kept (gap_from (stands-in c.maps.pools) (c.progress.address + size)) c refl p)

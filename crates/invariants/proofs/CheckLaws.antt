@@ -2,23 +2,26 @@
 -- Assumes nothing.
 use Rattle.base.proofs.Prelude.{refl, ◌≡◌, true, false, Bool, List, ◌≤◌, ℕ, ◌<◌, ◌%◌, arith, eqb, length, eq-eqb, le-leb, leb-true, eqb-true}
 use Rattle.base.proofs.ChoiceLaws.{both_true}
+use Rattle.std.specs.Prelude.{Result, Ok, Err}
+use Rattle.base.specs.declared.refusal.Refusal.{Refusal}
+use Rattle.base.specs.declared.refusal.Refusal.TheVariants.{BadWindow, BadStart, UnalignedStart, BadLists}
 use Rattle.base.specs.Choice.{pick}
 use Rattle.context.specs.Context.{label_row, pool_row, table_row}
 use Rattle.context.specs.Lists.{Lists, AllHeld, maps_in}
 use Rattle.context.specs.Turn.{key_or0}
 use Rattle.rows.specs.Map.{Held, in_order, last_key}
 use Rattle.rows.proofs.MapLaws.{held-in-order, in-order-held}
-use Rattle.stepper.specs.Stepper.{number_at}
-use Rattle.validity.specs.Validity.{is_window, is_in_code, are_starts, are_in_order, are_whole, are_held, are_pools, are_lists, begin_number, step_number}
+use Rattle.stepper.specs.Stepper.{check_at}
+use Rattle.validity.specs.Validity.{is_window, is_in_code, are_starts, are_in_order, are_whole, are_held, are_pools, are_lists, begin_check, step_check}
 use Rattle.walk.specs.declared.Counts.{Counts}
 use Rattle.walk.specs.declared.Options.{Options}
 use Rattle.walk.specs.declared.Walk.{Walk}
 
 -- ---- a test and what comes after it
 
-pub passes : (b : Bool) (x k : ℕ) → 0 < k → pick b x k ≡ 0 → (b ≡ true) × (x ≡ 0)
-passes true x k h e = (refl, e)
-passes false x k h e = absurd (omega arith)
+pub passes : (b : Bool) (x : Result (Unit {0}) Refusal) (r : Refusal) → pick b x (Err r) ≡ Ok tt → (b ≡ true) × (x ≡ Ok tt)
+passes true x r e = (refl, e)
+passes false x r e = cc
 
 -- ---- a begin that passed
 
@@ -29,17 +32,17 @@ pub record Begins (o : Options) (a : ℕ) (code starts : List ℕ) : Type 0 wher
   pub ascends : Held 1 (length starts) starts
 
 module _ (o : Options) (a : ℕ) (code starts : List ℕ) where
-  pub number-begins : begin_number o a (length code) starts ≡ 0 → Begins o a code starts
-  unfolding begin_number are_starts
+  pub number-begins : begin_check o a (length code) starts ≡ Ok tt → Begins o a code starts
+  unfolding begin_check are_starts
   number-begins e =
-      let b = passes (is_window o (length code)) _ 1 (omega arith) e in
-      let c = passes (is_in_code o.base (length code) a) _ 2 (omega arith) b.1 in
-      let d = passes (eqb (a % 4) 0) _ 3 (omega arith) c.1 in
-      let f = passes (are_starts starts) 0 4 (omega arith) d.1 in
+      let b = passes (is_window o (length code)) _ BadWindow e in
+      let c = passes (is_in_code o.base (length code) a) _ BadStart b.1 in
+      let d = passes (eqb (a % 4) 0) _ UnalignedStart c.1 in
+      let f = passes (are_starts starts) (Ok tt) BadLists d.1 in
       record { window = b.0; start = c.0; aligned = eqb-true (a % 4) 0 d.0; ascends = in-order-held (omega arith) f.0 }
 
-  pub begins-number : Begins o a code starts → begin_number o a (length code) starts ≡ 0
-  unfolding begin_number are_starts
+  pub begins-number : Begins o a code starts → begin_check o a (length code) starts ≡ Ok tt
+  unfolding begin_check are_starts
   begins-number p = rw (p.window, p.start, eq-eqb (a % 4) 0 p.aligned, held-in-order p.ascends)
 
 -- ---- a step that passed
@@ -78,13 +81,13 @@ module _ (n : Counts) (l : Lists) where
       (held-in-order h.calls)
 
 module _ (o : Options) (code starts : List ℕ) (w : Walk) (l : Lists) where
-  pub number_passed : number_at o code starts w l ≡ 0 → Passed o code starts w l
-  unfolding step_number are_lists are_pools are_starts
+  pub number_passed : check_at o code starts w l ≡ Ok tt → Passed o code starts w l
+  unfolding step_check are_lists are_pools are_starts
   number_passed e =
-      let a = passes (is_window o (length code)) _ 1 (omega arith) e in
-      let b = passes _ _ 2 (omega arith) a.1 in
-      let c = passes (eqb (w.progress.start % 4) 0) _ 3 (omega arith) b.1 in
-      let d = passes _ 0 4 (omega arith) c.1 in
+      let a = passes (is_window o (length code)) _ BadWindow e in
+      let b = passes _ _ BadStart a.1 in
+      let c = passes (eqb (w.progress.start % 4) 0) _ UnalignedStart b.1 in
+      let d = passes _ (Ok tt) BadLists c.1 in
       let f = both_true (is_in_code o.base (length code) w.progress.start) _ b.0 in
       let g = both_true (are_starts starts) _ d.0 in
       let h = both_true (are_in_order w.counts l) _ g.1 in
@@ -102,8 +105,8 @@ module _ (o : Options) (code starts : List ℕ) (w : Walk) (l : Lists) where
         held = j.1;
       }
 
-  pub passed-number : Passed o code starts w l → number_at o code starts w l ≡ 0
-  unfolding step_number are_lists are_pools are_starts
+  pub passed-number : Passed o code starts w l → check_at o code starts w l ≡ Ok tt
+  unfolding step_check are_lists are_pools are_starts
   passed-number p =
       rw (
         p.window,

@@ -1,9 +1,9 @@
 -- What the checks ask for holds again after a turn that goes on; and after any turn the lists hold its maps.
 -- Assumes nothing.
 use Rattle.base.proofs.Prelude.{refl, ◌≡◌, ap, true, List, [], ℕ, ◌<◌, arith, zero-mul, leb, length, leb-true}
+use Rattle.std.specs.Prelude.{Ok}
 use Rattle.arm.specs.Ins.{decode_of}
-use Rattle.base.specs.declared.word.Word.{Word}
-use Rattle.base.specs.declared.word.Word.TheVariants.{Found as W-Found, Missing}
+use Rattle.std.specs.Prelude.{Option, Some, None}
 use Rattle.base.specs.Words.{word_from}
 use Rattle.context.specs.Context.{Maps, Given, Context, Step, label_row, pool_row, table_row, call_row}
 use Rattle.context.specs.Lists.{Lists, AllHeld, maps_in, written, zeroed, places_of, given_by}
@@ -12,7 +12,7 @@ use Rattle.rows.specs.Order.{ascending}
 use Rattle.rows.specs.Map.{Held, encode, map_in, last_key}
 use Rattle.rows.proofs.MapLaws.{held-map, map-length, encode-map, encode-held, encode-length}
 use Rattle.base.proofs.ChoiceLaws.{both_first}
-use Rattle.stepper.specs.Stepper.{is_going, number_at, turned}
+use Rattle.stepper.specs.Stepper.{is_going, check_at, turned}
 use Rattle.validity.specs.Validity.{is_in_code, are_whole, are_held}
 use Rattle.walk.specs.declared.Answer.{Answer}
 use Rattle.walk.specs.declared.Answer.TheVariants.{Going, Accepted, Refused}
@@ -111,11 +111,11 @@ module _ (g : Given) (w : Walk) (m : Maps) where
       closed-fits g.places (function_of e c) (ending_at e c) (rw (ap (λ (x : Given). x.places) k.0) at q.0)
   settled-fits is-refused k = none-fits g.places
 
-  word_fits : Sound before → (x : Word) → AllFit g.places (turn_at x before).maps
-  word_fits p (W-Found word) =
+  word_fits : Sound before → (x : Option ℕ) → AllFit g.places (turn_at x before).maps
+  word_fits p (Some word) =
       let i = decode_of word w.progress.address in
       settled-fits (step-sound i word arm_size before p) (step_same i word arm_size before)
-  word_fits p Missing = none-fits g.places
+  word_fits p None = none-fits g.places
 
   -- any turn leaves maps that fit
   pub sound-fits : Sound (context_at g w m) → AllFit g.places (turn g w m).maps
@@ -176,7 +176,7 @@ module _ (o : Options) (code starts : List ℕ) (w : Walk) (l : Lists) (p : Pass
 
 -- ---- the same by number
 
-module _ (o : Options) (code starts : List ℕ) (w : Walk) (l : Lists) (number : number_at o code starts w l ≡ 0) where
+module _ (o : Options) (code starts : List ℕ) (w : Walk) (l : Lists) (number : check_at o code starts w l ≡ Ok tt) where
   abbrev here : Turned
   here = turn (given_by o code starts l) w (maps_in w.counts l)
 
@@ -187,7 +187,7 @@ module _ (o : Options) (code starts : List ℕ) (w : Walk) (l : Lists) (number :
   fit = turn-fits o code starts w l passed
 
   -- a turn that goes on leaves what passes the checks again
-  pub turn-kept : is_going here.walk.result ≡ true → number_at o code starts (turned l here).walk (turned l here).lists ≡ 0
+  pub turn-kept : is_going here.walk.result ≡ true → check_at o code starts (turned l here).walk (turned l here).lists ≡ Ok tt
   turn-kept h = passed-number o code starts here.walk (written l here.maps) (turn-passed o code starts w l passed h)
 
   -- any turn leaves lists that hold its maps, and have their places

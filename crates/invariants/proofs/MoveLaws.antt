@@ -5,6 +5,7 @@ use Rattle.base.proofs.Prelude.{refl, ◌≡◌, ap, false, true, Bool, List, []
 use Rattle.base.proofs.Prelude.{eqb, ltb, leb, length, eq-eqb, lt-ltb, eqb-true, ltb-true}
 use Rattle.arm.specs.declared.Ins.{Ins}
 use Rattle.arm.specs.Ins.{decode_of}
+use Rattle.std.specs.Prelude.{Option, Some, None}
 use Rattle.base.specs.Choice.{pick}
 use Rattle.context.specs.Blocks.{inline_table_at, is_within, table_end_at, past_gap, to_label, past_pools, raises_label, label_raised, handle_label, handle_ins}
 use Rattle.context.specs.Turn.{arm_size}
@@ -12,11 +13,7 @@ use Rattle.context.specs.Context.{Context, Step, on, goes, ends, with_progress, 
 use Rattle.predicates.specs.Predicates.{is_branch, is_entry_instruction}
 use Rattle.rows.specs.Rows.{rank, stands, inserted}
 use Rattle.rows.specs.Map.{key_of, stands-in, at_or_above, fits}
-use Rattle.rows.specs.declared.Found.{Found}
-use Rattle.rows.specs.declared.Found.TheVariants.{At as F-At, Missing as F-Missing}
 use Rattle.rows.specs.Run.{gap_from}
-use Rattle.rows.specs.declared.Gap.{Gap}
-use Rattle.rows.specs.declared.Gap.TheVariants.{At as G-At, Beyond as G-Beyond}
 use Rattle.rows.proofs.RowLaws.{stands-inserted}
 use Rattle.base.proofs.ChoiceLaws.{both-second}
 use Rattle.invariants.proofs.TargetLaws.{branch-past}
@@ -149,7 +146,7 @@ rank-within x y (r ∷ rs) e l = step (ltb (key_of r) x) (ltb (key_of r) y) refl
     step true true f g next h = suc-le-suc (next h)
     step false true f g next h = let same : key_of r ≡ x = eqb-true _ _ h in omega (arith, ltb-true)
 
-label-found : (x y : ℕ) (m : List (List ℕ)) → stands-in m x ≡ true → y ≤ x → at_or_above y m ≡ F-Missing → ⊥
+label-found : (x y : ℕ) (m : List (List ℕ)) → stands-in m x ≡ true → y ≤ x → at_or_above y m ≡ None → ⊥
 unfolding at_or_above
 label-found x y m e l h = let f = lt-ltb _ _ (rank-within x y m e l) in let z : ◌≡◌ {A = ℕ} 0 1 = cc (rw f at h) in omega arith
 
@@ -167,20 +164,20 @@ module _ (word : ℕ) (c : Context) (at : AtNext arm_size c)
   abbrev Unended : Step → Type 0
   Unended s = Meets (λ d. Unit {0}) (λ d. Unit {0}) (λ e d. ⊥) s
 
-  gap-goes : (g : Gap) (d : Context) → Unended (past_gap g d)
-  gap-goes (G-At n) d = is-on tt
-  gap-goes G-Beyond d = is-refused
+  gap-goes : (g : Option ℕ) (d : Context) → Unended (past_gap g d)
+  gap-goes (Some n) d = is-on tt
+  gap-goes None d = is-refused
 
   -- and one ahead is found past the pools
-  ahead-found : (d : Context) → Labelled d → d.progress.address < i.target → at_or_above d.next d.maps.labels ≡ F-Missing → ⊥
+  ahead-found : (d : Context) → Labelled d → d.progress.address < i.target → at_or_above d.next d.maps.labels ≡ None → ⊥
   ahead-found d p ahead e =
       let here = p.address in
       let past = branch-past word c.progress.address is-branch (omega arith) in
       label-found i.target d.next d.maps.labels p.target (omega (arith, p.next)) e
 
-  label-goes : (f : Found) (d : Context) → at_or_above d.next d.maps.labels ≡ f → Labelled d → Unended (to_label i arm_size f d)
-  label-goes (F-At k) d e p = is-on tt
-  label-goes F-Missing d e p =
+  label-goes : (f : Option ℕ) (d : Context) → at_or_above d.next d.maps.labels ≡ f → Labelled d → Unended (to_label i arm_size f d)
+  label-goes (Some k) d e p = is-on tt
+  label-goes None d e p =
       chosen (ltb d.progress.address i.target)
       (λ h. absurd (ahead-found d p (ltb-true d.progress.address i.target h) e))
       (λ h. gap-goes (gap_from (stands-in d.maps.pools) (d.progress.address + arm_size)) d)

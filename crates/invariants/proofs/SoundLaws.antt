@@ -4,7 +4,7 @@
 use Rattle.base.proofs.Prelude.{◌∙◌, sym, refl, ◌≡◌, false, true, Bool, List, [], ◌∷◌, map, ◌≤◌, ℕ, ◌+◌, ◌*◌, max, arith, eqb, length, get_or, eq-eqb}
 use Rattle.base.proofs.Prelude.{le-leb, leb-true}
 use Rattle.arm.specs.declared.Ins.{Ins}
-use Rattle.base.specs.declared.word.Word.TheVariants.{Found as W-Found}
+use Rattle.std.specs.Prelude.{Some}
 use Rattle.base.specs.Choice.{pick}
 use Rattle.base.specs.Words.{word_from}
 use Rattle.context.specs.Blocks.{other, call, marked, handle_ins}
@@ -103,7 +103,7 @@ abbrev pub Sound : Context → Type 0
 Sound c = AllFit c.given.places c.maps
     × Pooled c.given.options.base (length c.given.code) c.progress.last_pool_address c.registers.sources c.maps.pools
 
-whole-found : (code : List ℕ) (base a w : ℕ) → word_from code base a ≡ W-Found w → is_whole base (length code) a ≡ true
+whole-found : (code : List ℕ) (base a w : ℕ) → word_from code base a ≡ Some w → is_whole base (length code) a ≡ true
 unfolding is_whole
 whole-found code base a w e = let i = found_inside code base a w e in rw (le-leb base a i.0, le-leb (a + 4) (base + length code) i.1)
 
@@ -126,7 +126,7 @@ module _ (i : Ins) (size : ℕ) where
     entry = λ e c p. p;
   }
 
-  loads-kept : (a value : ℕ) (c : Context) → word_from c.given.code c.given.options.base a ≡ W-Found value
+  loads-kept : (a value : ℕ) (c : Context) → word_from c.given.code c.given.options.base a ≡ Some value
       → fits pool_row c.given.places.pools (inserted key_of (a ∷ value ∷ other ∷ []) c.maps.pools) ≡ true
       → Sound c → Sound (loaded_from i a value c)
   unfolding holding

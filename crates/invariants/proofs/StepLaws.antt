@@ -3,15 +3,16 @@
 -- Assumes nothing.
 use Rattle.base.proofs.Prelude.{◌∙◌, sym, refl, ◌≡◌, ap, subst, false, true, Bool, List, ◌≤◌, ℕ, ◌+◌, ◌<◌, ◌-◌, suc, zero, max, arith, eqb, length}
 use Rattle.base.proofs.Prelude.{eq-eqb}
-use Rattle.base.specs.declared.word.Word.{Word}
-use Rattle.base.specs.declared.word.Word.TheVariants.{Found as W-Found, Missing}
+use Rattle.std.specs.Prelude.{Result, Ok, Err, is_ok}
+use Rattle.base.specs.declared.refusal.Refusal.{Refusal}
+use Rattle.std.specs.Prelude.{Option, Some, None}
 use Rattle.base.specs.Choice.{pick, both}
 use Rattle.base.specs.Words.{word_from}
 use Rattle.context.specs.Context.{Maps, Given}
 use Rattle.context.specs.Lists.{Lists, AllHeld, maps_in, written, places_of, given_by}
 use Rattle.context.specs.Turn.{Turned, turn}
 use Rattle.rows.specs.Map.{encode, map_in}
-use Rattle.stepper.specs.Stepper.{After, is_going, number_at, step, turned, unchanged, refused}
+use Rattle.stepper.specs.Stepper.{After, is_going, check_at, step, step_where, turned, unchanged}
 use Rattle.walk.specs.declared.Counts.{Counts}
 use Rattle.walk.specs.declared.Options.{Options}
 use Rattle.walk.specs.declared.Walk.{Walk}
@@ -66,10 +67,10 @@ module _ (o : Options) (code starts : List ℕ) where
   turn_after s = turn (given_by o code starts s.lists) s.walk (maps_in s.walk.counts s.lists)
 
   -- a step from a walk that passes the checks
-  pub step-turns : (s : After) → is_going s.walk.result ≡ true → number_at o code starts s.walk s.lists ≡ 0
+  pub step-turns : (s : After) → is_going s.walk.result ≡ true → check_at o code starts s.walk s.lists ≡ Ok tt
       → stepped s ≡ turned s.lists (turn_after s)
   unfolding step
-  step-turns s on number = rw (on, eq-eqb (number_at o code starts s.walk s.lists) 0 number)
+  step-turns s on number = rw (on, number)
 
   -- after the end
   step-ended : (s : After) → is_going s.walk.result ≡ false → stepped s ≡ unchanged s.walk s.lists s.walk.result
@@ -84,7 +85,7 @@ module _ (o : Options) (code starts : List ℕ) where
       subst (λ (x : After). ((steps_from o code starts n x).walk ≡ s.walk) × ((steps_from o code starts n x).lists ≡ s.lists)) (sym (step-ended s off))
       (steps-ended n (unchanged s.walk s.lists s.walk.result) off)
 
-  turns-on : (n : ℕ) (s : After) (l : Lists) (t : Turned) → is_going s.walk.result ≡ true → number_at o code starts s.walk s.lists ≡ 0
+  turns-on : (n : ℕ) (s : After) (l : Lists) (t : Turned) → is_going s.walk.result ≡ true → check_at o code starts s.walk s.lists ≡ Ok tt
       → places_of s.lists ≡ places_of l → turned_of s ≡ t → Turns (steps_from o code starts n s) l (turns_from (given_by o code starts l) n t)
   unfolding steps_from turns_from
   turns-on zero s l t on number places same = record {
@@ -119,7 +120,7 @@ module _ (o : Options) (code starts : List ℕ) where
           ∙ turns
 
       go : (b : Bool) → is_going (turn_after s).walk.result ≡ b
-          → (is_going (turn_after s).walk.result ≡ true → number_at o code starts (turn_after s).walk (written s.lists (turn_after s).maps) ≡ 0
+          → (is_going (turn_after s).walk.result ≡ true → check_at o code starts (turn_after s).walk (written s.lists (turn_after s).maps) ≡ Ok tt
           → places_of (written s.lists (turn_after s).maps) ≡ places_of l
           → turned_of (turned s.lists (turn_after s)) ≡ turn g t.walk t.maps
           → Turns (steps_from o code starts n (turned s.lists (turn_after s))) l (turns_from g n (turn g t.walk t.maps)))
@@ -136,7 +137,7 @@ module _ (o : Options) (code starts : List ℕ) where
           }
 
   -- from a walk that passes the checks
-  pub steps-turn : (n : ℕ) (s : After) → is_going s.walk.result ≡ true → number_at o code starts s.walk s.lists ≡ 0
+  pub steps-turn : (n : ℕ) (s : After) → is_going s.walk.result ≡ true → check_at o code starts s.walk s.lists ≡ Ok tt
       → Turns (steps_from o code starts n s) s.lists (turns_from (given_by o code starts s.lists) n (turned_of s))
   steps-turn n s on number = turns-on n s s.lists (turned_of s) on number refl refl
 
@@ -153,27 +154,27 @@ module _ (o : Options) (code starts : List ℕ) where
   ended-none zero w l e = refl
   ended-none (suc n) w l e = rw e (omega (arith, ended-none n w l e))
 
-  finds : (w : Walk) (x : Word) → word_from code o.base w.progress.address ≡ x → as_number (is_found x) ≤ rest w
-  finds w (W-Found word) e = omega (arith, found_inside code o.base w.progress.address word e)
-  finds w Missing e = omega arith
+  finds : (w : Walk) (x : Option ℕ) → word_from code o.base w.progress.address ≡ x → as_number (is_found x) ≤ rest w
+  finds w (Some word) e = omega (arith, found_inside code o.base w.progress.address word e)
+  finds w None e = omega arith
 
-  finds-more : (w : Walk) (x : Word) → word_from code o.base w.progress.address ≡ x
+  finds-more : (w : Walk) (x : Option ℕ) → word_from code o.base w.progress.address ≡ x
       → (k a : ℕ) → w.progress.address < a → k ≤ o.base + length code - max a o.base → as_number (is_found x) + k ≤ rest w
-  finds-more w (W-Found word) e k a l m = omega (arith, found_inside code o.base w.progress.address word e)
-  finds-more w Missing e k a l m = omega arith
+  finds-more w (Some word) e k a l m = omega (arith, found_inside code o.base w.progress.address word e)
+  finds-more w None e k a l m = omega arith
 
   bounded : (n : ℕ) (w : Walk) (l : Lists) → word_steps o code starts n w l ≤ rest w
   unfolding word_steps finds_word step
   bounded zero w l = omega arith
-  bounded (suc n) w l = go (is_going w.result) (eqb (number_at o code starts w l) 0) (λ x m. bounded n x m)
+  bounded (suc n) w l = go (is_going w.result) (check_at o code starts w l) (λ x m. bounded n x m)
     where
       here : Turned
       here = turn (given_by o code starts l) w (maps_in w.counts l)
 
-      after : Bool → Bool → After
-      after g c = pick g (pick c (turned l here) (unchanged w l (refused (number_at o code starts w l)))) (unchanged w l w.result)
+      after : Bool → Result (Unit {0}) Refusal → After
+      after g c = pick g (step_where o code starts w l c) (unchanged w l w.result)
 
-      word : Word
+      word : Option ℕ
       word = word_from code o.base w.progress.address
 
       ended : (b : Bool) → is_going here.walk.result ≡ b → ((x : Walk) (m : Lists) → word_steps o code starts n x m ≤ rest x)
@@ -183,11 +184,11 @@ module _ (o : Options) (code starts : List ℕ) where
           (turn-past (given_by o code starts l) w (maps_in w.counts l) j) (more here.walk (written l here.maps))
       ended false j more = rw (ended-none n here.walk (written l here.maps) j) (omega (arith, finds w word refl))
 
-      go : (g c : Bool) → ((x : Walk) (m : Lists) → word_steps o code starts n x m ≤ rest x)
-          → as_number (both g (both c (is_found word))) + word_steps o code starts n (after g c).walk (after g c).lists ≤ rest w
+      go : (g : Bool) (c : Result (Unit {0}) Refusal) → ((x : Walk) (m : Lists) → word_steps o code starts n x m ≤ rest x)
+          → as_number (both g (both (is_ok c) (is_found word))) + word_steps o code starts n (after g c).walk (after g c).lists ≤ rest w
       go false c more = omega (arith, more w l)
-      go true false more = omega (arith, more w l)
-      go true true more = ended (is_going here.walk.result) refl more
+      go true (Err refusal) more = omega (arith, more w l)
+      go true (Ok t) more = ended (is_going here.walk.result) refl more
 
   -- of any walk, over any lists
   pub word-steps : (n : ℕ) (w : Walk) (l : Lists) → word_steps o code starts n w l ≤ length code

@@ -1,9 +1,9 @@
 -- A turn: one that goes on has found a word, and its step went on; what it leaves is counted.
 -- Assumes nothing.
 use Rattle.base.proofs.Prelude.{◌∙◌, refl, ◌≡◌, ap, true, false, Bool, ℕ, ◌<◌, arith, ltb}
+use Rattle.base.specs.declared.refusal.Refusal.TheVariants.{NoEpilogue}
 use Rattle.arm.specs.Ins.{decode_of}
-use Rattle.base.specs.declared.word.Word.{Word}
-use Rattle.base.specs.declared.word.Word.TheVariants.{Found as W-Found, Missing}
+use Rattle.std.specs.Prelude.{Option, Some, None}
 use Rattle.base.specs.Choice.{pick}
 use Rattle.base.specs.Words.{word_from}
 use Rattle.context.specs.Blocks.{handle_ins}
@@ -23,7 +23,7 @@ unfolding into_function
 function-ends end c =
     step (ltb c.given.options.module_end (end_address c.given.options.known_end end c.progress.last_pool_address)) _ refl
   where
-    step : (b : Bool) (x : Answer) → is_going x ≡ false → is_going (pick b (Refused 14 0 0) x) ≡ false
+    step : (b : Bool) (x : Answer) → is_going x ≡ false → is_going (pick b (Refused NoEpilogue 0 0) x) ≡ false
     step true x e = refl
     step false x e = e
 
@@ -35,7 +35,7 @@ closed-result (Refused n x r) c = refl
 -- a turn that goes on: its word, and what its step went on with
 pub record Onward (g : Given) (w : Walk) (m : Maps) : Type 0 where
   pub word : ℕ
-  pub found : word_from g.code g.options.base w.progress.address ≡ W-Found word
+  pub found : word_from g.code g.options.base w.progress.address ≡ Some word
   pub to : Context
   pub step : handle_ins (decode_of word w.progress.address) word arm_size (context_at g w m) ≡ goes to
   pub is : turn g w m ≡ walk_of Going to
@@ -48,7 +48,7 @@ module _ (g : Given) (w : Walk) (m : Maps) where
   unfolding turn
   turn-onward h = find (word_from g.code g.options.base w.progress.address) refl h
     where
-      settle : (word : ℕ) → word_from g.code g.options.base w.progress.address ≡ W-Found word → (s : Step)
+      settle : (word : ℕ) → word_from g.code g.options.base w.progress.address ≡ Some word → (s : Step)
           → handle_ins (decode_of word w.progress.address) word arm_size before ≡ s → is_going (settled before s).walk.result ≡ true → Onward g w m
       settle word f (on c) e h = absurd (never_on (decode_of word w.progress.address) word arm_size before c e)
       settle word f (goes c) e h = record {
@@ -56,7 +56,7 @@ module _ (g : Given) (w : Walk) (m : Maps) where
         found = f;
         to = c;
         step = e;
-        is = ap (λ (x : Word). turn_at x before) f ∙ ap (settled before) e;
+        is = ap (λ (x : Option ℕ). turn_at x before) f ∙ ap (settled before) e;
       }
       settle word f (ends end c) e h =
           absurd
@@ -66,10 +66,10 @@ module _ (g : Given) (w : Walk) (m : Maps) where
           omega arith)
       settle word f (refuses n r) e h = absurd (let z : ◌≡◌ {A = ℕ} 0 1 = cc in omega arith)
 
-      find : (x : Word) → word_from g.code g.options.base w.progress.address ≡ x → is_going (turn_at x before).walk.result ≡ true
+      find : (x : Option ℕ) → word_from g.code g.options.base w.progress.address ≡ x → is_going (turn_at x before).walk.result ≡ true
           → Onward g w m
-      find (W-Found word) f h = settle word f (handle_ins (decode_of word w.progress.address) word arm_size before) refl h
-      find Missing f h = absurd (let z : ◌≡◌ {A = ℕ} 0 1 = cc in omega arith)
+      find (Some word) f h = settle word f (handle_ins (decode_of word w.progress.address) word arm_size before) refl h
+      find None f h = absurd (let z : ◌≡◌ {A = ℕ} 0 1 = cc in omega arith)
 
   -- it has moved on
   pub turn-past : is_going (turn g w m).walk.result ≡ true → w.progress.address < (turn g w m).walk.progress.address
@@ -90,9 +90,9 @@ module _ (g : Given) (w : Walk) (m : Maps) where
   settled-counts (ends e c) = closed-counts (function_of e c) (ending_at e c)
   settled-counts (refuses n r) = refl
 
-  word_counts : (x : Word) → (turn_at x before).walk.counts ≡ counts_of (turn_at x before).maps
-  word_counts (W-Found word) = settled-counts (handle_ins (decode_of word w.progress.address) word arm_size before)
-  word_counts Missing = refl
+  word_counts : (x : Option ℕ) → (turn_at x before).walk.counts ≡ counts_of (turn_at x before).maps
+  word_counts (Some word) = settled-counts (handle_ins (decode_of word w.progress.address) word arm_size before)
+  word_counts None = refl
 
   pub turn-counts : (turn g w m).walk.counts ≡ counts_of (turn g w m).maps
   unfolding turn

@@ -3,11 +3,10 @@
 use Rattle.base.proofs.Prelude.{◌∙◌, sym, refl, ◌≡◌, ap, false, true, Bool, List, [], ◌∷◌, ℕ, ◌+◌, ◌<◌, ◌^◌, arith, ltb, length, ltb-true}
 use Rattle.arm.specs.declared.Ins.{Ins}
 use Rattle.base.specs.Choice.{pick}
-use Rattle.base.specs.Refusals.{list_full}
 use Rattle.rows.specs.Rows.{rank}
 use Rattle.rows.specs.Map.{key_of, map_in, Held, Entering, at_or_above}
-use Rattle.rows.specs.declared.Entered.{Entered}
-use Rattle.rows.specs.declared.Found.TheVariants.{At, Missing}
+use Rattle.std.specs.Prelude.{Some, None, Ok, Err}
+use Rattle.base.specs.declared.refusal.Refusal.{Refusal}
 use Rattle.rows.proofs.MapLaws.{map-length}
 use Rattle.context.specs.declared.State.{State}
 use Rattle.context.specs.declared.Stepped.{Stepped}
@@ -15,18 +14,18 @@ use Rattle.context.specs.declared.Then.TheVariants.{Refuses}
 use Rattle.context.specs.Context.{enter_label, raising, label_row, pool_row}
 use Rattle.context.specs.Blocks.{past_pools, raises_label, label_raised, handle_label}
 use Rattle.context.specs.State.{World, Settles, Does, context_of, counted, count_labels, progressed, labels_in, pools_in}
-use Rattle.context.proofs.Laws.{onwards, entering, labels-held, go-settled}
+use Rattle.context.proofs.Laws.{onwards, full-refusal, entered-in, entered-full, labels-held, go-settled}
 use Rattle.labels.specs.Labels.{raises_by, raised_by}
 
 -- the first label at or above an address is one of the labels
-pub above_within : (x n : ℕ) (list : List ℕ) {k : ℕ} → at_or_above x (map_in label_row n list) ≡ At k → k < n
+pub above_within : (x n : ℕ) (list : List ℕ) {k : ℕ} → at_or_above x (map_in label_row n list) ≡ Some k → k < n
 unfolding at_or_above
 above_within x n list e = rw (map-length label_row n list) at (found (map_in label_row n list) e)
   where
-    found : (m : List (List ℕ)) {k : ℕ} → at_or_above x m ≡ At k → k < length m
+    found : (m : List (List ℕ)) {k : ℕ} → at_or_above x m ≡ Some k → k < length m
     found m {k} = step (ltb (rank key_of x m) (length m)) refl
       where
-        step : (b : Bool) → ltb (rank key_of x m) (length m) ≡ b → pick b (At (rank key_of x m)) Missing ≡ At k → k < length m
+        step : (b : Bool) → ltb (rank key_of x m) (length m) ≡ b → pick b (Some (rank key_of x m)) None ≡ Some k → k < length m
         step true q e = let p : rank key_of x m ≡ k = cc in rw p at (ltb-true (rank key_of x m) (length m) q)
         step false q e = let z : ◌≡◌ {A = ℕ} 0 1 = cc in omega (arith, z)
 
@@ -58,35 +57,33 @@ module _ (i : Ins) (inside : Bool) where
 
 -- ---- handle_label, after its label was entered
 
-module _ (i : Ins) (s : State) (size : ℕ) (inside : Bool) (pools : List ℕ) {e : Entered} {t : State} {before after : List ℕ}
-    (put : Entering label_row s.counts.labels before (i.target ∷ []) e after)
-    (long : length after ≡ length before)
-    (te : t ≡ counted (count_labels e.count s.counts) s) where
-  abbrev from : World → World
-  from l = labels_in before (pools_in pools l)
-
-  abbrev to : World → World
-  to l = labels_in after (pools_in pools l)
-
-  pub label-full : {r : Stepped} → e.full ≡ true → r ≡ record { then = Refuses list_full 0; state = t }
-      → Does from to (handle_label i size inside) s r
+module _ (i : Ins) (s : State) (size : ℕ) (inside : Bool) (pools : List ℕ) {before after : List ℕ} (long : length after ≡ length before) where
+  pub label-full : {refusal : Refusal} {r : Stepped} → Entering label_row s.counts.labels before (i.target ∷ []) (Err refusal) after
+      → r ≡ record { then = Refuses refusal 0; state = s }
+      → Does (λ l. labels_in before (pools_in pools l)) (λ l. labels_in after (pools_in pools l)) (handle_label i size inside) s r
   unfolding handle_label
-  label-full full re = λ l h.
-      let held = labels-held (pools_in pools l) h put.held long in
-      rw (re, te) (record { stays = refl; call = refl; holds = held; says = sym (rw (entering _ _ h.label_places put, full)) })
+  label-full put re = λ l h.
+      rw (re, full-refusal put)
+      (record {
+        stays = refl;
+        call = refl;
+        holds = labels-held (pools_in pools l) h put.held long;
+        says = sym (rw (entered-full _ _ h.label_places put));
+      })
 
-  pub label-in : {u : State} {r : Stepped} → e.full ≡ false → u ≡ raised_by i inside t → Does to to (past_pools i size) u r
-      → Does from to (handle_label i size inside) s r
+  pub label-in : {count : ℕ} {t u : State} {r : Stepped} → Entering label_row s.counts.labels before (i.target ∷ []) (Ok count) after
+      → t ≡ counted (count_labels count s.counts) s → u ≡ raised_by i inside t → Does (λ l. labels_in after (pools_in pools l)) (λ l. labels_in after (pools_in pools l)) (past_pools i size) u r
+      → Does (λ l. labels_in before (pools_in pools l)) (λ l. labels_in after (pools_in pools l)) (handle_label i size inside) s r
   unfolding handle_label
-  label-in {u} {r} full ue d = λ l h.
+  label-in {count} {t} {u} {r} put te ue d = λ l h.
       let held = labels-held (pools_in pools l) h put.held long in
-      let w : Settles s.progress.address s.call (onwards t) (to l) (enter_label (i.target ∷ []) (context_of s (from l)))
-      = rw te (record { stays = refl; call = refl; holds = held; says = sym (rw (entering _ _ h.label_places put, full)) }) in
+      let w : Settles s.progress.address s.call (onwards t) (labels_in after (pools_in pools l)) (enter_label (i.target ∷ []) (context_of s (labels_in before (pools_in pools l))))
+      = rw te (record { stays = refl; call = refl; holds = held; says = sym (rw (entered-in _ _ h.label_places put)) }) in
       let v = d l (rw (ue, te) held) in
       go-settled (λ c. past_pools i size (label_raised i inside c)) refl w
       (record {
         stays = v.stays ∙ rw ue (raised-address i inside t);
         call = v.call ∙ rw ue;
         holds = v.holds;
-        says = v.says ∙ ap (past_pools i size) (rw ue (raised_is i inside t (to l)));
+        says = v.says ∙ ap (past_pools i size) (rw ue (raised_is i inside t (labels_in after (pools_in pools l))));
       })

@@ -9,12 +9,11 @@ ghost use Rattle.context.specs.State.{Does, labels_in, pools_in};
 ghost use Rattle.labels.specs.Labels.{raises_by, raised_by};
 
 use arm::Ins;
-use base::refusal::{BEYOND_32_BITS, LIST_FULL};
+use base::refusal::Refusal;
 use context::{LABEL_ROW, POOL_ROW, State, Stepped, assign};
 use rows::insert::enter;
 use rows::run::first_gap;
 use rows::search::{at_or_above, contains, field};
-use rows::{Found, Gap};
 use walk::Progress;
 
 // handle_label: the jump past pools
@@ -28,19 +27,12 @@ fn past_pools(s: State, size: u32, ins: Ins, labels: &[u32], pools: &[u32]) -> S
         return assign::on(s);
     }
     match at_or_above(labels, LABEL_ROW, s.counts.labels, pc) {
-        Found::At(k) => assign::on(assign::goto(
-            s,
-            field(labels, LABEL_ROW, s.counts.labels, k, 0),
-        )),
-        Found::Missing => {
-            if s.progress.address < ins.target {
-                return assign::end(s, next);
-            }
-            match first_gap(pools, POOL_ROW, s.counts.pools, next) {
-                Gap::At(after) => assign::on(assign::goto(s, after)),
-                Gap::Beyond => assign::refuse(s, BEYOND_32_BITS),
-            }
-        }
+        Some(k) => assign::on(assign::goto(s, field(labels, LABEL_ROW, s.counts.labels, k, 0))),
+        None if s.progress.address < ins.target => assign::end(s, next),
+        None => match first_gap(pools, POOL_ROW, s.counts.pools, next) {
+            Some(after) => assign::on(assign::goto(s, after)),
+            None => assign::refuse(s, Refusal::Beyond32Bits),
+        },
     }
 }
 
@@ -48,23 +40,17 @@ fn past_pools(s: State, size: u32, ins: Ins, labels: &[u32], pools: &[u32]) -> S
 fn raises_label(p: Progress, ins: Ins, inside: bool) -> bool
     ensures { result ≡ raises_by ins inside p }
 {
-    if inside {
-        return true;
-    }
-    if ins.is_conditional() {
-        return true;
-    }
-    p.address < p.jump_table_end_address
+    inside || ins.is_conditional() || p.address < p.jump_table_end_address
 }
 
 fn label_raised(s: State, ins: Ins, inside: bool) -> State
     ensures { result ≡ raised_by ins inside s }
 {
-    let p = s.progress;
-    if raises_label(p, ins, inside) {
-        return assign::raise(s, ins.target);
+    if raises_label(s.progress, ins, inside) {
+        assign::raise(s, ins.target)
+    } else {
+        s
     }
-    s
 }
 
 pub fn handle_label(
@@ -78,10 +64,11 @@ pub fn handle_label(
     requires { Held label_row s.counts.labels labels.old × Held pool_row s.counts.pools pools.now × (s.progress.address + size < 2 ^ 32) }
     ensures { Does (λ l. labels_in labels.old (pools_in pools.now l)) (λ l. labels_in labels.new (pools_in pools.now l)) (handle_label ins size inside) s result }
 {
-    let e = enter(labels, LABEL_ROW, s.counts.labels, [ins.target, 0, 0, 0]);
-    let t = assign::count_labels(s, e.count);
-    if e.full {
-        return assign::refuse(t, LIST_FULL);
+    match enter(labels, LABEL_ROW, s.counts.labels, [ins.target, 0, 0, 0]) {
+        Ok(count) => {
+            let t = assign::count_labels(s, count);
+            past_pools(label_raised(t, ins, inside), size, ins, labels, pools)
+        }
+        Err(refusal) => assign::refuse(s, refusal),
     }
-    past_pools(label_raised(t, ins, inside), size, ins, labels, pools)
 }

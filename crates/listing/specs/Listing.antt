@@ -1,6 +1,7 @@
 -- Document 01: the listing of an answer and its lists.
 -- Assumes nothing.
 use Rattle.std.specs.Prelude.{ℕ, ◌+◌, ◌*◌, ◌/◌, ◌≤◌, min, List, [], ◌++◌, length}
+use Rattle.base.specs.Refusals.{refusal_no}
 use Rattle.context.specs.Context.{Maps, label_row, pool_row, table_row, call_row}
 use Rattle.context.specs.Lists.{Lists, maps_in}
 use Rattle.text.specs.Decimal.{decimal}
@@ -30,7 +31,7 @@ list_lines m =
 unfoldable pub text_with : Answer → Maps → List ℕ
 text_with Going m = []
 text_with (Accepted r) m = record_line r ++ list_lines m
-text_with (Refused number address register) m = refusal_line number address
+text_with (Refused refusal address register) m = refusal_line (refusal_no refusal) address
 
 -- a count that a host made up lists no more rows than its list has places for
 unfoldable pub shown : Lists → Counts → Counts

@@ -1,136 +1,125 @@
 // The listing of a walk's answer and lists, as document 01 has it. A list is lent as rows, whose numbers `context` tells.
 #![tactic(auto)]
 
-ghost use Rattle.std.specs.Prelude.{◌≡◌, ◌+◌, ◌*◌, ◌^◌, ◌≤◌, ◌<◌, min, eqb, leb, length};
+ghost use Rattle.std.specs.Prelude.{◌≡◌, ◌+◌, ◌*◌, ◌^◌, ◌≤◌, ◌<◌, eqb, leb, length};
 ghost use Rattle.context.specs.Lists.{lists, maps_in};
 ghost use Rattle.rows.specs.Map.{map_in};
 ghost use Rattle.base.specs.Choice.{pick};
-ghost use Rattle.text.specs.Put.{Written};
+ghost use Rattle.text.specs.Writers.{HasRoom, Wrote};
 ghost use Rattle.words.specs.Answer.{Answered};
 ghost use Rattle.listing.specs.Lines.{field, rest_of, line_of, lines_of};
 ghost use Rattle.listing.specs.Listing.{record_line, refusal_line, list_lines, text_with, shown, text_of, room_with, room_for, Fitting};
 
 use context::{CALL_ROW, LABEL_ROW, POOL_ROW, TABLE_ROW};
+use text::Writer;
 use walk::{Answer, Counts, Record};
+use words::NoRoom;
 
-fn put_field(out: &mut [u8], at: usize, value: u32) -> usize
-    requires { at + 9 ≤ length out.old }
-    ensures { Written out.old at (field value) result out.new × (result ≡ at + 9) }
+fn put_field(writer: &mut Writer<'_>, value: u32)
+    requires { HasRoom writer.old 9 }
+    ensures { Wrote writer.old writer.new (field value) × (writer.new.at ≡ writer.old.at + 9) }
 {
-    let next = text::put_byte(out, at, b' ');
-    text::put_hex(out, next, 8, value)
+    writer.put_byte(b' ');
+    writer.put_hex(8, value);
 }
 
 // The word that a number stands for: `one` at 1, `other` at any other.
-fn put_word(out: &mut [u8], at: usize, value: u32, one: &[u8], other: &[u8]) -> usize
-    requires { (at + 6 ≤ length out.old) × (length one.now ≤ 6) × (length other.now ≤ 6) }
-    ensures { Written out.old at (pick (eqb value 1) one.now other.now) result out.new × (result ≤ at + 6) }
+fn put_word(writer: &mut Writer<'_>, value: u32, one: &[u8], other: &[u8])
+    requires { HasRoom writer.old 6 × (length one.now ≤ 6) × (length other.now ≤ 6) }
+    ensures { Wrote writer.old writer.new (pick (eqb value 1) one.now other.now) × (writer.new.at ≤ writer.old.at + 6) }
 {
     if value == 1 {
-        return text::put_bytes(out, at, one);
+        writer.put_bytes(one);
+    } else {
+        writer.put_bytes(other);
     }
-    text::put_bytes(out, at, other)
 }
 
 // What follows the address of a row.
-fn put_rest(out: &mut [u8], at: usize, row: &[u32]) -> usize
-    requires { at + 24 ≤ length out.old }
-    ensures { Written out.old at (rest_of row.now) result out.new × (result ≤ at + 24) }
+fn put_rest(writer: &mut Writer<'_>, row: &[u32])
+    requires { HasRoom writer.old 24 }
+    ensures { Wrote writer.old writer.new (rest_of row.now) × (writer.new.at ≤ writer.old.at + 24) }
 {
-    let numbers = row.len();
-    if numbers == TABLE_ROW {
-        return put_field(out, at, row[1]);
+    match row {
+        [_, size] => put_field(writer, *size),
+        [_, value, mark] => {
+            put_field(writer, *value);
+            put_word(writer, *mark, b" call", b" other");
+        }
+        [_, word, destination, mode] => {
+            put_field(writer, *word);
+            put_field(writer, *destination);
+            put_word(writer, *mode, b" thumb", b" arm");
+        }
+        _ => {}
     }
-    if numbers == POOL_ROW {
-        let next = put_field(out, at, row[1]);
-        return put_word(out, next, row[2], b" call", b" other");
-    }
-    if numbers == CALL_ROW {
-        let next = put_field(out, at, row[1]);
-        let last = put_field(out, next, row[2]);
-        return put_word(out, last, row[3], b" thumb", b" arm");
-    }
-    at
 }
 
-fn put_line(out: &mut [u8], at: usize, name: &[u8], row: &[u32]) -> usize
-    requires { (at + 40 ≤ length out.old) × (length name.now ≤ 6) × (0 < length row.now) }
-    ensures { Written out.old at (line_of name.now row.now) result out.new × (result ≤ at + 40) }
+fn put_line(writer: &mut Writer<'_>, name: &[u8], row: &[u32])
+    requires { HasRoom writer.old 40 × (length name.now ≤ 6) × (0 < length row.now) }
+    ensures { Wrote writer.old writer.new (line_of name.now row.now) × (writer.new.at ≤ writer.old.at + 40) }
 {
-    let a = text::put_bytes(out, at, name);
-    let b = put_field(out, a, row[0]);
-    let c = put_rest(out, b, row);
-    text::put_byte(out, c, b'\n')
+    writer.put_bytes(name);
+    put_field(writer, row[0]);
+    put_rest(writer, row);
+    writer.put_byte(b'\n');
 }
 
 // The lines of a list's first `count` rows.
-fn put_lines(
-    out: &mut [u8],
-    at: usize,
-    name: &[u8],
-    list: &[u32],
-    stride: usize,
-    count: usize,
-) -> usize
-    requires { (at + 40 * count ≤ length out.old) × (length name.now ≤ 6) × (0 < stride) × (count * stride ≤ length list.now) }
-    ensures { Written out.old at (lines_of name.now (map_in stride count list.now)) result out.new × (result ≤ at + 40 * count) }
+fn put_lines(writer: &mut Writer<'_>, name: &[u8], list: &[u32], stride: usize, count: usize)
+    requires { HasRoom writer.old (40 * count) × (length name.now ≤ 6) × (0 < stride) × (count * stride ≤ length list.now) }
+    ensures { Wrote writer.old writer.new (lines_of name.now (map_in stride count list.now)) × (writer.new.at ≤ writer.old.at + 40 * count) }
 {
-    let mut next = at;
-    let mut i = 0;
-    while i < count {
+    for i in 0..count {
         let from = i * stride;
-        let to = from + stride;
-        next = put_line(out, next, name, &list[from..to]);
-        i += 1;
+        put_line(writer, name, &list[from..from + stride]);
     }
-    next
 }
 
-fn put_record(out: &mut [u8], at: usize, r: Record) -> usize
-    requires { at + 45 ≤ length out.old }
-    ensures { Written out.old at (record_line r) result out.new × (result ≡ at + 45) }
+fn put_record(writer: &mut Writer<'_>, r: Record)
+    requires { HasRoom writer.old 45 }
+    ensures { Wrote writer.old writer.new (record_line r) × (writer.new.at ≡ writer.old.at + 45) }
 {
-    let a = text::put_bytes(out, at, b"function");
-    let b = put_field(out, a, r.start);
-    let c = put_field(out, b, r.end);
-    let d = put_field(out, c, r.first_instruction);
-    let e = put_field(out, d, r.last_instruction_end);
-    text::put_byte(out, e, b'\n')
+    writer.put_bytes(b"function");
+    put_field(writer, r.start);
+    put_field(writer, r.end);
+    put_field(writer, r.first_instruction);
+    put_field(writer, r.last_instruction_end);
+    writer.put_byte(b'\n');
 }
 
-fn put_refusal(out: &mut [u8], at: usize, number: u8, address: u32) -> usize
-    requires { at + 45 ≤ length out.old }
-    ensures { Written out.old at (refusal_line number address) result out.new }
+fn put_refusal(writer: &mut Writer<'_>, number: u8, address: u32)
+    requires { HasRoom writer.old 45 }
+    ensures { Wrote writer.old writer.new (refusal_line number address) }
 {
-    let a = text::put_bytes(out, at, b"refused ");
-    let b = text::put_decimal(out, a, number as u64);
-    let c = put_field(out, b, address);
-    text::put_byte(out, c, b'\n')
+    writer.put_bytes(b"refused ");
+    writer.put_decimal(number as u64);
+    put_field(writer, address);
+    writer.put_byte(b'\n');
 }
 
 // The lines of every list.
 fn put_lists(
-    out: &mut [u8],
-    at: usize,
+    writer: &mut Writer<'_>,
     labels: &[u32],
     pools: &[u32],
     jump_tables: &[u32],
     inline_tables: &[u32],
     calls: &[u32],
     n: Counts,
-) -> usize
-    requires { (at + 40 * (n.labels + n.pools + n.jump_tables + n.inline_tables + n.calls) ≤ length out.old) × Fitting (lists labels.now pools.now jump_tables.now inline_tables.now calls.now) n }
-    ensures { Written out.old at (list_lines (maps_in n (lists labels.now pools.now jump_tables.now inline_tables.now calls.now))) result out.new }
+)
+    requires { HasRoom writer.old (40 * (n.labels + n.pools + n.jump_tables + n.inline_tables + n.calls)) × Fitting (lists labels.now pools.now jump_tables.now inline_tables.now calls.now) n }
+    ensures { Wrote writer.old writer.new (list_lines (maps_in n (lists labels.now pools.now jump_tables.now inline_tables.now calls.now))) }
 {
-    let a = put_lines(out, at, b"label", labels, LABEL_ROW, n.labels);
-    let b = put_lines(out, a, b"pool", pools, POOL_ROW, n.pools);
-    let c = put_lines(out, b, b"jump", jump_tables, TABLE_ROW, n.jump_tables);
-    let d = put_lines(out, c, b"inline", inline_tables, TABLE_ROW, n.inline_tables);
-    put_lines(out, d, b"call", calls, CALL_ROW, n.calls)
+    put_lines(writer, b"label", labels, LABEL_ROW, n.labels);
+    put_lines(writer, b"pool", pools, POOL_ROW, n.pools);
+    put_lines(writer, b"jump", jump_tables, TABLE_ROW, n.jump_tables);
+    put_lines(writer, b"inline", inline_tables, TABLE_ROW, n.inline_tables);
+    put_lines(writer, b"call", calls, CALL_ROW, n.calls);
 }
 
 fn put_answer(
-    out: &mut [u8],
+    writer: &mut Writer<'_>,
     answer: Answer,
     labels: &[u32],
     pools: &[u32],
@@ -138,31 +127,26 @@ fn put_answer(
     inline_tables: &[u32],
     calls: &[u32],
     n: Counts,
-) -> usize
-    requires { (room_with n ≤ length out.old) × Fitting (lists labels.now pools.now jump_tables.now inline_tables.now calls.now) n }
-    ensures { Written out.old 0 (text_with answer (maps_in n (lists labels.now pools.now jump_tables.now inline_tables.now calls.now))) result out.new }
+)
+    requires { HasRoom writer.old (room_with n) × Fitting (lists labels.now pools.now jump_tables.now inline_tables.now calls.now) n }
+    ensures { Wrote writer.old writer.new (text_with answer (maps_in n (lists labels.now pools.now jump_tables.now inline_tables.now calls.now))) }
 {
     match answer {
-        Answer::Going => 0,
+        Answer::Going => {}
         Answer::Accepted(record) => {
-            let at = put_record(out, 0, record);
-            put_lists(out, at, labels, pools, jump_tables, inline_tables, calls, n)
+            put_record(writer, record);
+            put_lists(writer, labels, pools, jump_tables, inline_tables, calls, n);
         }
         Answer::Refused {
-            number,
+            refusal,
             address,
-            register: _,
-        } => put_refusal(out, 0, number, address),
+            ..
+        } => put_refusal(writer, u8::from(refusal), address),
     }
 }
 
-fn smaller(a: usize, b: usize) -> usize
-    ensures { result ≡ min a b }
-{
-    if a < b { a } else { b }
-}
-
 // How many rows of each list are shown.
+#[tactic(auto, unfolding(crate::specs::Listing::shown))]
 fn shown(
     labels: &[u32],
     pools: &[u32],
@@ -174,11 +158,11 @@ fn shown(
     ensures { result ≡ shown (lists labels.now pools.now jump_tables.now inline_tables.now calls.now) n }
 {
     Counts {
-        labels: smaller(n.labels, labels.len() / LABEL_ROW),
-        pools: smaller(n.pools, pools.len() / POOL_ROW),
-        jump_tables: smaller(n.jump_tables, jump_tables.len() / TABLE_ROW),
-        inline_tables: smaller(n.inline_tables, inline_tables.len() / TABLE_ROW),
-        calls: smaller(n.calls, calls.len() / CALL_ROW),
+        labels: n.labels.min(labels.len() / LABEL_ROW),
+        pools: n.pools.min(pools.len() / POOL_ROW),
+        jump_tables: n.jump_tables.min(jump_tables.len() / TABLE_ROW),
+        inline_tables: n.inline_tables.min(inline_tables.len() / TABLE_ROW),
+        calls: n.calls.min(calls.len() / CALL_ROW),
     }
 }
 
@@ -203,21 +187,23 @@ pub fn listing(
     inline_tables: &[u32],
     calls: &[u32],
     counts: Counts,
-) -> words::Answer
+) -> Result<usize, NoRoom>
     ensures { Answered (text_of answer (lists labels.now pools.now jump_tables.now inline_tables.now calls.now) counts) (room_for (lists labels.now pools.now jump_tables.now inline_tables.now calls.now) counts) out.old result out.new }
 {
     let n = shown(labels, pools, jump_tables, inline_tables, calls, counts);
-    if has_room(out.len(), n) {
-        return words::Answer::Text(put_answer(
-            out,
-            answer,
-            labels,
-            pools,
-            jump_tables,
-            inline_tables,
-            calls,
-            n,
-        ));
+    if !has_room(out.len(), n) {
+        return Err(NoRoom);
     }
-    words::Answer::NoRoom
+    let mut writer = Writer::new(out);
+    put_answer(
+        &mut writer,
+        answer,
+        labels,
+        pools,
+        jump_tables,
+        inline_tables,
+        calls,
+        n,
+    );
+    Ok(writer.at)
 }

@@ -46,7 +46,7 @@ fn list_next(
     if streams::read_full(from, &mut head)? < 4 {
         return Ok(false);
     }
-    let count = words::word_at(&head, 0) as usize;
+    let count = u32::from_be_bytes(head) as usize;
     if 16411 < count {
         return Ok(false);
     }

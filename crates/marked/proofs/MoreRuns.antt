@@ -2,9 +2,10 @@
 -- Assumes nothing.
 use Rattle.base.proofs.Prelude.{◌∙◌, refl, ◌≡◌, false, List, [], ◌∷◌, map}
 use Rattle.context.specs.Blocks.{other, arm, thumb}
+use Rattle.base.specs.declared.refusal.Refusal.TheVariants.{ListFull}
 use Rattle.walk.specs.declared.Answer.TheVariants.{Refused}
 use Rattle.walk.specs.declared.Counts.{Counts}
-use Rattle.walk.specs.declared.KnownEnd.TheVariants.{Nothing}
+use Rattle.std.specs.Prelude.{None}
 use Rattle.marked.proofs.Computing.{calls, spelled_in}
 use Rattle.marked.specs.Marked.{Marked, row, accepted, places, four_rows, given_in, expected_in, given, expected}
 
@@ -12,7 +13,7 @@ use Rattle.marked.specs.Marked.{Marked, row, accepted, places, four_rows, given_
 abbrev full_labels : Marked
 full_labels =
     row (0xE350_0002 ∷ 0x908F_F100 ∷ 0xEA00_0002 ∷ 0xEA00_0001 ∷ 0xEA00_0000 ∷ 0xEAFF_FFFF ∷ 0xE12F_FF1E ∷ [])
-    0x0200_0000 0x0200_001C Nothing false (Refused 13 0x0200_0008 0)
+    0x0200_0000 0x0200_001C None false (Refused ListFull 0x0200_0008 0)
     [] [] [] [] []
 
 abbrev no_labels : Counts
@@ -33,28 +34,28 @@ abbrev more : List Marked
 more =
     -- an inline table, of which 08 and 0C are the last eight bytes: sub r0, pc, #0x1F8; ldrb r1, [r0, r2, lsr #1]
     row (0xE24F_0F7E ∷ 0xE7D0_10A2 ∷ 0xE7F0_00F0 ∷ 0xE7F0_00F0 ∷ 0xE12F_FF1E ∷ [])
-    0x0200_0000 0x0200_0014 Nothing false (accepted 0x0200_0014 0x0200_0014)
+    0x0200_0000 0x0200_0014 None false (accepted 0x0200_0014 0x0200_0014)
     [] [] [] ((0x01FF_FF10 ∷ 0x100 ∷ []) ∷ []) []
     -- a call, and a branch back before a pool, with a label past it: bl; beq 14; b 00
     ∷ row (0xE59F_0008 ∷ 0xEB00_003D ∷ 0x0A00_0001 ∷ 0xEAFF_FFFB ∷ 0x1234_5678 ∷ 0xE12F_FF1E ∷ [])
-    0x0200_0000 0x0200_0018 Nothing false (accepted 0x0200_0018 0x0200_0018)
+    0x0200_0000 0x0200_0018 None false (accepted 0x0200_0018 0x0200_0018)
     ((0x0200_0000 ∷ []) ∷ (0x0200_0014 ∷ []) ∷ []) ((0x0200_0010 ∷ 0x1234_5678 ∷ other ∷ []) ∷ [])
     [] [] ((0x0200_0004 ∷ 0xEB00_003D ∷ 0x0200_0100 ∷ arm ∷ []) ∷ [])
     -- the same in a jump table, with no label past the pool
     ∷ row (0xE59F_100C ∷ 0xE350_0001 ∷ 0x908F_F100 ∷ 0xE1A0_0000 ∷ 0xEAFF_FFFA ∷ 0x1234_5678 ∷ 0xE12F_FF1E ∷ [])
-    0x0200_0000 0x0200_001C Nothing false (accepted 0x0200_001C 0x0200_001C)
+    0x0200_0000 0x0200_001C None false (accepted 0x0200_001C 0x0200_001C)
     ((0x0200_0000 ∷ []) ∷ []) ((0x0200_0014 ∷ 0x1234_5678 ∷ other ∷ []) ∷ []) ((0x0200_0010 ∷ 8 ∷ []) ∷ []) [] []
     -- a return before the destination of a long branch
     ∷ row (0xE59F_1008 ∷ 0xEB00_0000 ∷ 0xE12F_FF1E ∷ 0xE12F_FF1E ∷ 0x1234_5678 ∷ [])
-    0x0200_0000 0x0200_0014 Nothing false (accepted 0x0200_0014 0x0200_0010)
+    0x0200_0000 0x0200_0014 None false (accepted 0x0200_0014 0x0200_0010)
     [] ((0x0200_0010 ∷ 0x1234_5678 ∷ other ∷ []) ∷ []) [] [] ((0x0200_0004 ∷ 0xEB00_0000 ∷ 0x0200_000C ∷ arm ∷ []) ∷ [])
     -- a pool word that is passed over, beq as an instruction, and then a push of lr
     ∷ row (0xE51F_0004 ∷ 0x0A00_0000 ∷ 0xE92D_4000 ∷ [])
-    0x0200_0000 0x0200_000C Nothing false (accepted 0x0200_0008 0x0200_0008)
+    0x0200_0000 0x0200_000C None false (accepted 0x0200_0008 0x0200_0008)
     [] ((0x0200_0004 ∷ 0x0A00_0000 ∷ other ∷ []) ∷ []) [] [] []
     -- blx, and a tail call below the start
     ∷ row (0xFB00_003E ∷ 0xEAFF_FFFA ∷ [])
-    0x0200_0000 0x0200_0008 Nothing false (accepted 0x0200_0008 0x0200_0008)
+    0x0200_0000 0x0200_0008 None false (accepted 0x0200_0008 0x0200_0008)
     [] [] [] [] ((0x0200_0000 ∷ 0xFB00_003E ∷ 0x0200_0102 ∷ thumb ∷ []) ∷ (0x0200_0004 ∷ 0xEAFF_FFFA ∷ 0x01FF_FFF4 ∷ arm ∷ []) ∷ [])
     ∷ []
 

@@ -1,6 +1,7 @@
 -- Document 01's marked runs, C1 to C12, in its order.
 -- Assumes nothing.
 use Rattle.std.specs.Prelude.{ℕ, zero, suc, ◌/◌, ◌%◌, Bool, true, false, List, [], ◌∷◌, length, replicate}
+use Rattle.base.specs.declared.refusal.Refusal.TheVariants.{BranchOutside, UndefinedRegister, NoEpilogue}
 use Rattle.context.specs.Blocks.{other, call, arm}
 use Rattle.context.specs.Context.{Maps}
 use Rattle.context.specs.Lists.{Lists, lists}
@@ -10,8 +11,7 @@ use Rattle.stepper.specs.Stepper.{After, begin, step, finish}
 use Rattle.walk.specs.declared.Answer.{Answer}
 use Rattle.walk.specs.declared.Answer.TheVariants.{Accepted, Refused}
 use Rattle.walk.specs.declared.Counts.{Counts}
-use Rattle.walk.specs.declared.KnownEnd.{KnownEnd}
-use Rattle.walk.specs.declared.KnownEnd.TheVariants.{Nothing, At}
+use Rattle.std.specs.Prelude.{Option, Some, None}
 use Rattle.walk.specs.declared.Options.{Options}
 
 -- a run of the table: its words and options, its answer, and the rows of each list
@@ -19,13 +19,13 @@ pub record Marked : Type 0 where
   pub words : List ℕ
   pub base : ℕ
   pub module_end : ℕ
-  pub known_end : KnownEnd
+  pub known_end : Option ℕ
   pub check : Bool
   pub answer : Answer
   pub maps : Maps
 
 abbrev pub row :
-    List ℕ → ℕ → ℕ → KnownEnd → Bool → Answer → List (List ℕ) → List (List ℕ) → List (List ℕ) → List (List ℕ) → List (List ℕ) → Marked
+    List ℕ → ℕ → ℕ → Option ℕ → Bool → Answer → List (List ℕ) → List (List ℕ) → List (List ℕ) → List (List ℕ) → List (List ℕ) → Marked
 row words base end known check answer labels pools jumps inlines calls = record {
   words = words;
   base = base;
@@ -41,48 +41,48 @@ abbrev pub accepted : ℕ → ℕ → Answer
 accepted end last = Accepted (record { start = 0x0200_0000; end = end; first_instruction = 0x0200_0000; last_instruction_end = last })
 
 -- words, base, module end, known end, check, answer; then labels (address), pools (address, value, mark), jump tables and inline tables
--- (address, size), calls (address, word, destination, mode). A refusal has its number, address and register.
+-- (address, size), calls (address, word, destination, mode). A refusal has its name, address and register.
 abbrev pub table : List Marked
 table =
     -- C1
-    row (0xE59F_0000 ∷ 0xE12F_FF1E ∷ 0x1234_5678 ∷ []) 0x0200_0000 0x0200_000C Nothing false (accepted 0x0200_000C 0x0200_0008)
+    row (0xE59F_0000 ∷ 0xE12F_FF1E ∷ 0x1234_5678 ∷ []) 0x0200_0000 0x0200_000C None false (accepted 0x0200_000C 0x0200_0008)
     [] ((0x0200_0008 ∷ 0x1234_5678 ∷ other ∷ []) ∷ []) [] [] []
     -- C2
-    ∷ row (0xE59F_0000 ∷ 0xE12F_FF1E ∷ 0x1234_5678 ∷ []) 0x0200_0000 0x0200_0008 Nothing false (Refused 14 0 0)
+    ∷ row (0xE59F_0000 ∷ 0xE12F_FF1E ∷ 0x1234_5678 ∷ []) 0x0200_0000 0x0200_0008 None false (Refused NoEpilogue 0 0)
     [] [] [] [] []
     -- C3
-    ∷ row (0xE12F_FF1E ∷ []) 0x0200_0000 0x0200_0004 Nothing false (accepted 0x0200_0004 0x0200_0004)
+    ∷ row (0xE12F_FF1E ∷ []) 0x0200_0000 0x0200_0004 None false (accepted 0x0200_0004 0x0200_0004)
     [] [] [] [] []
     -- C4
-    ∷ row [] 0x0200_0000 0x0200_0000 Nothing false (Refused 14 0 0)
+    ∷ row [] 0x0200_0000 0x0200_0000 None false (Refused NoEpilogue 0 0)
     [] [] [] [] []
     -- C5
-    ∷ row (0xEAFF_FFFE ∷ []) 0x0200_0000 0x0200_0004 Nothing false (accepted 0x0200_0004 0x0200_0004)
+    ∷ row (0xEAFF_FFFE ∷ []) 0x0200_0000 0x0200_0004 None false (accepted 0x0200_0004 0x0200_0004)
     [] [] [] [] []
     -- C6
-    ∷ row (0x0AFF_FFFD ∷ []) 0x01FF_8000 0x01FF_8004 Nothing false (Refused 9 0x01FF_8000 0)
+    ∷ row (0x0AFF_FFFD ∷ []) 0x01FF_8000 0x01FF_8004 None false (Refused BranchOutside 0x01FF_8000 0)
     [] [] [] [] []
     -- C7
-    ∷ row (0xEA00_003E ∷ 0xE12F_FF1E ∷ []) 0x0200_0000 0x0200_0008 Nothing false (accepted 0x0200_0008 0x0200_0008)
+    ∷ row (0xEA00_003E ∷ 0xE12F_FF1E ∷ []) 0x0200_0000 0x0200_0008 None false (accepted 0x0200_0008 0x0200_0008)
     [] [] [] [] ((0x0200_0000 ∷ 0xEA00_003E ∷ 0x0200_0100 ∷ arm ∷ []) ∷ [])
     -- C8
     ∷ row (0xE350_0002 ∷ 0x908F_F100 ∷ 0xEA00_0002 ∷ 0xEA00_0001 ∷ 0xEA00_0000 ∷ 0xEAFF_FFFF ∷ 0xE12F_FF1E ∷ [])
-    0x0200_0000 0x0200_001C Nothing false (accepted 0x0200_001C 0x0200_001C)
+    0x0200_0000 0x0200_001C None false (accepted 0x0200_001C 0x0200_001C)
     ((0x0200_0018 ∷ []) ∷ []) [] ((0x0200_000C ∷ 12 ∷ []) ∷ []) [] []
     -- C9
-    ∷ row (0xE59F_C000 ∷ 0xE12F_FF1C ∷ 0x0000_0000 ∷ []) 0x0200_0000 0x0200_000C Nothing false (accepted 0x0200_000C 0x0200_0008)
+    ∷ row (0xE59F_C000 ∷ 0xE12F_FF1C ∷ 0x0000_0000 ∷ []) 0x0200_0000 0x0200_000C None false (accepted 0x0200_000C 0x0200_0008)
     [] ((0x0200_0008 ∷ 0x0000_0000 ∷ call ∷ []) ∷ []) [] [] []
     -- C10
-    ∷ row (0xE350_0000 ∷ 0xE350_0000 ∷ 0x908F_F100 ∷ 0xE12F_FF1E ∷ []) 0x0200_0000 0x0200_0010 Nothing false (accepted 0x0200_0010 0x0200_0010)
+    ∷ row (0xE350_0000 ∷ 0xE350_0000 ∷ 0x908F_F100 ∷ 0xE12F_FF1E ∷ []) 0x0200_0000 0x0200_0010 None false (accepted 0x0200_0010 0x0200_0010)
     [] [] [] [] []
     -- C11
-    ∷ row (0xE12F_FF1E ∷ []) 0x0200_0000 0x0200_0008 (At 0x0200_0008) false (accepted 0x0200_0008 0x0200_0004)
+    ∷ row (0xE12F_FF1E ∷ []) 0x0200_0000 0x0200_0008 (Some 0x0200_0008) false (accepted 0x0200_0008 0x0200_0004)
     [] [] [] [] []
     -- C12, check off
-    ∷ row (0xE1A0_0004 ∷ 0xE12F_FF1E ∷ []) 0x0200_0000 0x0200_0008 Nothing false (accepted 0x0200_0008 0x0200_0008)
+    ∷ row (0xE1A0_0004 ∷ 0xE12F_FF1E ∷ []) 0x0200_0000 0x0200_0008 None false (accepted 0x0200_0008 0x0200_0008)
     [] [] [] [] []
     -- C12, check on
-    ∷ row (0xE1A0_0004 ∷ 0xE12F_FF1E ∷ []) 0x0200_0000 0x0200_0008 Nothing true (Refused 11 0x0200_0000 4)
+    ∷ row (0xE1A0_0004 ∷ 0xE12F_FF1E ∷ []) 0x0200_0000 0x0200_0008 None true (Refused UndefinedRegister 0x0200_0000 4)
     [] [] [] [] []
     ∷ []
 

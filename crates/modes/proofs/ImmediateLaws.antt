@@ -1,15 +1,19 @@
 -- Laws of a rotated word: its range and each of its bits; and that an immediate is one. Assumes nothing.
 use Prim.Native.Nat.{ℕ, zero, suc, ◌+◌, ◌-◌, ◌*◌, ◌/◌, ◌%◌, ◌^◌, ◌<◌, ◌≤◌}
 use mathlib.Core.Bool.{Bool, true, false}
-use mathlib.Core.Logic.{⊎_elim}
 use mathlib.Core.Path.{◌≡◌, refl, sym, ap, ◌∙◌, subst}
-use native.Mathlib.Nat.{eq-or-lt_of_le, add_comm, mul_assoc, mod-lt, mul-add-div_right, mul-add-mod_self_right}
+use native.Mathlib.Nat.{add_comm, mul_assoc, mod-lt, mul-mod_left, mul-add-div_right, mul-add-mod_self_right}
 use native.Mathlib.Omega.{arith}
+use borrow.Enum.Match.{each_below}
 use borrow.Author.Tests.{ltb-true, ltb-false}
 use lib.Arith.{digits_lt}
 use lib.Dec.{ltb}
 use lib.ListN.{get_or}
 use lib.Pow as Pow
+use mir.Syntax.{w32}
+use Rattle.std.specs.Int
+use Rattle.std.proofs.lemmas.Nat.{or_comm, or_shifted, mod-pow-add, shl-shr, and_mask}
+use Rattle.std.specs.Int.Bits.{bit_and, or_self}
 use lib.Pow.{pow-add, pow_pos, shr_lt, shr-shr, mod-mod-pow}
 use Rattle.modes.specs.Immediate.{rotate_right, rotations, immediate}
 
@@ -71,38 +75,40 @@ rotated_by n v i hn hv hi false e =
 pub rotated : (n v i : ℕ) → n < 32 → v < 2 ^ 32 → i < 32 → rotate_right n v / 2 ^ i % 2 ≡ v / 2 ^ ((i + n) % 32) % 2
 rotated n v i hn hv hi = rotated_by n v i hn hv hi (ltb i (32 - n)) refl
 
+-- the machine's rotation of 32 bits
+turned : (n v : ℕ) → n < 32 → v < 2 ^ 32 → Int.rotate_right w32 v n ≡ rotate_right n v
+unfolding rotate_right
+turned zero v h hv =
+    let none : v / 1 ≡ v = omega arith in
+    let all : v * 1 % 2 ^ 32 ≡ v = omega arith in
+    rw (all, none, or_self v) (omega arith)
+turned (suc k) v h hv =
+    let n = suc k in
+    let m = 32 - n in
+    let by : n % 32 ≡ n = omega arith in
+    let up : (32 - n) % 32 ≡ m = omega arith in
+    let whole : 32 ≡ n + m = omega arith in
+    let high : v * 2 ^ m % 2 ^ 32 ≡ v % 2 ^ n * 2 ^ m =
+    ap (λ (j : ℕ). v * 2 ^ m % 2 ^ j) whole ∙ mod-pow-add (v * 2 ^ m) n m ∙ rw (shl-shr v m, mul-mod_left v (2 ^ m)) (omega arith) in
+    rw (by, up, high, or_comm, or_shifted (v % 2 ^ n) m (v / 2 ^ n) (high-short n v (omega arith) hv)) (add_comm (v % 2 ^ n * 2 ^ m) (v / 2 ^ n))
+
 -- ---- the sixteen cases
-
--- a fact of each number below n
-abbrev Below : (ℕ → Type 0) → ℕ → Type 0
-Below P zero = Unit {0}
-Below P (suc n) = Below P n × P n
-
-each : (P : ℕ → Type 0) (n : ℕ) → Below P n → (k : ℕ) → k < n → P k
-each P zero h k l = absurd (omega arith)
-each P (suc n) h k l =
-    ⊎_elim (λ (e : k ≡ n). subst (λ (j : ℕ). P j) (sym e) h.1) (λ (m : k < n). each P n h.0 k m) (eq-or-lt_of_le {m = n} (omega arith))
 
 -- each case is the eight bits rotated right by twice its field
 pub by_field : (v : ℕ) → v < 256 → (k : ℕ) → k < 16 → get_or (rotations v) k 0 ≡ rotate_right (2 * k) v
 unfolding rotations rotate_right
 by_field v h k l =
-    each (λ (k : ℕ). get_or (rotations v) k 0 ≡ rotate_right (2 * k) v) 16
-    ((((((((((((((((tt, omega arith), omega arith), omega arith), omega arith), omega arith), omega arith), omega arith), omega arith), omega arith), omega arith), omega arith), omega arith), omega arith), omega arith), omega arith), omega arith)
-    k l
-
--- the case of a word's field
-pub at_field : (w k : ℕ) → w / 256 % 16 ≡ k → get_or (rotations (w % 256)) k 0 ≡ immediate w
-unfolding immediate
-at_field w k e = ap (λ (j : ℕ). get_or (rotations (w % 256)) j 0) (sym e)
-
--- no field is left beside the sixteen
-pub none_left : (w : ℕ) → Below (λ (k : ℕ). w / 256 % 16 ≡ k → ⊥) 16 → ⊥
-none_left w h = each (λ (k : ℕ). w / 256 % 16 ≡ k → ⊥) 16 h (w / 256 % 16) (omega arith) refl
+    each_below 16 (λ (k : ℕ). get_or (rotations v) k 0 ≡ rotate_right (2 * k) v)
+    (omega arith) k l
 
 pub immediate-rotates : (w : ℕ) → immediate w ≡ rotate_right (2 * (w / 256 % 16)) (w % 256)
 unfolding immediate
 immediate-rotates w = by_field (w % 256) (omega arith) (w / 256 % 16) (omega arith)
+
+-- the code's rotation of the eight bits
+pub rotation : (w : ℕ) → Int.rotate_right w32 (bit_and w 255) (2 * bit_and (w / 256) 15) ≡ immediate w
+rotation w =
+    rw (and_mask w 8, and_mask (w / 256) 4) (turned (2 * (w / 256 % 16)) (w % 256) (omega arith) (omega arith) ∙ sym (immediate-rotates w))
 
 pub immediate-rotated : (w i : ℕ) → i < 32 → immediate w / 2 ^ i % 2 ≡ w % 256 / 2 ^ ((i + 2 * (w / 256 % 16)) % 32) % 2
 immediate-rotated w i h =

@@ -1,18 +1,17 @@
 -- Laws of the signed offsets: what the definitions are in each of their cases, their ranges, and that an offset's bits in two's complement
 -- lead to the same destination as the offset itself. Assumes nothing.
-use Prim.Native.Nat.{ℕ, zero, suc, ◌+◌, ◌-◌, ◌*◌, ◌/◌, ◌%◌, ◌^◌, ◌<◌, ◌≤◌}
+use Prim.Native.Nat.{ℕ, zero, suc, ◌+◌, ◌-◌, ◌*◌, ◌%◌, ◌^◌, ◌<◌, ◌≤◌}
 use mathlib.Core.Bool.{Bool, true, false, not, cond}
-use mathlib.Core.Path.{◌≡◌, refl, sym, ap, ◌∙◌, subst, subst⁻¹}
+use mathlib.Core.Path.{◌≡◌, refl, sym, ap, ◌∙◌, subst}
 use native.Mathlib.Nat.{mod-lt}
 use native.Mathlib.Omega.{arith}
-use borrow.Author.Tests.{lt-ltb, le-ltb, eq-eqb, ne_eqb, ltb-true, ltb-false}
+use borrow.Author.Tests.{lt-ltb, le-ltb, ltb-true, ltb-false}
 use lib.Dec.{T, ltb, ltb→lt, nltb→le}
-use lib.IntN.{ℤ, pos, negsuc, neg_ℤ, ◌+ℤ◌, ◌-ℤ◌, +ℤ_idl, +ℤ_assoc, +ℤ_comm}
-use lib.Signed.{mag, lt_z}
+use lib.IntN.{ℤ, pos, negsuc, neg_ℤ, ◌+ℤ◌, ◌-ℤ◌, +ℤ_assoc, +ℤ_comm}
+use lib.Signed.{mag, shr_z}
 use mir.Syntax.{w32}
 use mir.Val.{SFits, of_z, to_z}
 use mir.Facts.{to_z-of_z}
-use mir.ValLaws.{to_z_pos}
 use Rattle.modes.specs.Offset.{signed, modulo, branch_offset, load_offset, destination}
 
 -- ---- the cases of the definitions
@@ -25,37 +24,16 @@ pub signed_high : (half x : ℕ) → half ≤ x → signed half x ≡ pos x -ℤ
 unfolding signed
 signed_high half x h = rw (le-ltb x half h, signed)
 
-pub load_up : (w : ℕ) → w / 0x80_0000 % 2 ≡ 1 → load_offset w ≡ pos (w % 4096)
-unfolding load_offset
-load_up w h = rw (eq-eqb (w / 0x80_0000 % 2) 1 h, load_offset)
-
-pub load-down : (w : ℕ) → (w / 0x80_0000 % 2 ≡ 1 → ⊥) → load_offset w ≡ pos 0 -ℤ pos (w % 4096)
-unfolding load_offset
-load-down w h = rw (ne_eqb (w / 0x80_0000 % 2) 1 h, load_offset) (sym (+ℤ_idl (neg_ℤ (pos (w % 4096)))))
+-- a branch's offset by the sign that a shift copies
+pub extended : (w : ℕ) → shr_z (to_z w32 (w * 256 % 0x1_0000_0000)) 256 ≡ branch_offset w
+unfolding branch_offset signed
+extended w = grind arith
 
 -- ---- ranges
-
-minus-by : (m a b : ℕ) → a < m → b < m → (t : Bool) → mag (cond t (negsuc (b - suc a)) (pos (a - b))) < m
-minus-by m a b ha hb true = omega arith
-minus-by m a b ha hb false = omega arith
-
--- the difference of two numbers below m
-pub minus-below : (m a b : ℕ) → a < m → b < m → mag (pos a -ℤ pos b) < m
-minus-below m a zero ha hb = omega arith
-minus-below m a (suc b) ha hb = minus-by m a (suc b) ha hb (ltb a (suc b))
 
 minus-up : (m a b : ℕ) → a < b → b ≤ a + m → mag (pos a -ℤ pos b) < m
 minus-up m a zero h k = absurd (omega arith)
 minus-up m a (suc b) h k = rw (lt-ltb a (suc b) h) (omega arith)
-
--- in signed 32 bits, where the machine reads the first number, or the second, back from its bits
-pub less-fits : (a : ℕ) {b : ℕ} → a < 2 ^ 31 → suc b < 2 ^ 31 → SFits w32 (to_z w32 a +ℤ negsuc b)
-less-fits a {b} ha hb =
-    subst⁻¹ (λ (z : ℤ). SFits w32 (z +ℤ negsuc b)) (to_z_pos w32 a ha) (record { sfits = minus-below (2 ^ 31) a (suc b) ha hb })
-
-pub from-fits : {a : ℕ} (b : ℕ) → a < 2 ^ 31 → b < 2 ^ 31 → SFits w32 (pos a -ℤ to_z w32 b)
-from-fits {a} b ha hb =
-    subst⁻¹ (λ (z : ℤ). SFits w32 (pos a -ℤ z)) (to_z_pos w32 b hb) (record { sfits = minus-below (2 ^ 31) a b ha hb })
 
 signed_by : (half x : ℕ) → x < half + half → (t : Bool) → ltb x half ≡ t → mag (signed half x) < half
 signed_by half x h true e =
@@ -77,40 +55,6 @@ pub modulo-below : (m : ℕ) (z : ℤ) → 0 < m → modulo m z < m
 unfolding modulo
 modulo-below m (pos n) h = mod-lt n h
 modulo-below m (negsuc n) h = omega arith
-
--- ---- an offset and its bits, by the offset's sign as a test reads it off the bits
-
-flip-negative : (n : ℕ) → negsuc 0 -ℤ negsuc n ≡ pos n
-flip-negative n = rw (le-ltb (suc n) 1 (omega arith)) (ap pos (omega arith))
-
-flip-at : (z : ℤ) → lt_z z (pos 0) ≡ true → negsuc 0 -ℤ z ≡ pos (mag z)
-flip-at (pos n) t = let k : n < 0 = ltb-true n 0 t in absurd (omega arith)
-flip-at (negsuc n) t = flip-negative n
-
-bits_at : (z : ℤ) → lt_z z (pos 0) ≡ true → 0xFFFF_FFFF - mag z ≡ of_z w32 z
-bits_at (pos n) t = let k : n < 0 = ltb-true n 0 t in absurd (omega arith)
-bits_at (negsuc n) t = omega arith
-
-same_at : (z : ℤ) → lt_z z (pos 0) ≡ false → z ≡ pos (of_z w32 z)
-same_at (pos n) t = refl
-same_at (negsuc n) t = let k : ◌≡◌ {A = Bool} true false = t in absurd (subst T k tt)
-
-module _ (z : ℤ) (f : SFits w32 z) where
-  back : (b : Bool) → lt_z (to_z w32 (of_z w32 z)) (pos 0) ≡ b → lt_z z (pos 0) ≡ b
-  back b t = subst (λ (y : ℤ). lt_z y (pos 0) ≡ b) (to_z-of_z f) t
-
-  -- -1 - z, which is not negative where z is
-  pub flip : lt_z (to_z w32 (of_z w32 z)) (pos 0) ≡ true → negsuc 0 -ℤ to_z w32 (of_z w32 z) ≡ pos (mag z)
-  flip t = ap (λ (y : ℤ). negsuc 0 -ℤ y) (to_z-of_z f) ∙ flip-at z (back true t)
-
-  pub flip-read : lt_z (to_z w32 (of_z w32 z)) (pos 0) ≡ true → to_z w32 (of_z w32 (negsuc 0 -ℤ to_z w32 (of_z w32 z))) ≡ pos (mag z)
-  flip-read t = ap (λ (y : ℤ). to_z w32 (of_z w32 y)) (flip t) ∙ to_z_pos w32 (mag z) f.sfits
-
-  pub negative-bits : lt_z (to_z w32 (of_z w32 z)) (pos 0) ≡ true → 0xFFFF_FFFF - mag z ≡ of_z w32 z
-  negative-bits t = bits_at z (back true t)
-
-  pub same_bits : lt_z (to_z w32 (of_z w32 z)) (pos 0) ≡ false → to_z w32 (of_z w32 z) ≡ pos (of_z w32 z)
-  same_bits t = to_z-of_z f ∙ same_at z (back false t)
 
 -- ---- the destination
 
@@ -166,3 +110,6 @@ load-back = refl
 load-on : load_offset 0xE591_0004 ≡ pos 4
 unfolding load_offset
 load-on = refl
+
+-- an offset read from its bits, and its bits
+pub ruleset offsets = (extended, branch-range, bits-modulo, to_z-of_z)

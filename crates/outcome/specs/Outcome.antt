@@ -1,7 +1,7 @@
 -- What a step's code comes to: the walk after it.
 -- Assumes nothing.
-use Rattle.std.specs.Prelude.{Bool, true, false, ℕ}
-use Rattle.context.specs.declared.Put.TheVariants.{Nothing}
+use Rattle.std.specs.Prelude.{Bool, true, false, ℕ, None}
+use Rattle.base.specs.declared.refusal.Refusal.{Refusal}
 use Rattle.context.specs.declared.State.{State}
 use Rattle.context.specs.declared.Then.{Then}
 use Rattle.context.specs.declared.Then.TheVariants.{On, Goes, Ends, Refuses}
@@ -22,7 +22,7 @@ state_of w = record {
   progress = w.progress;
   machines = w.machines;
   counts = w.counts;
-  call = Nothing;
+  call = None;
 }
 
 abbrev pub walk_in : Answer → Registers → State → Walk
@@ -32,13 +32,13 @@ abbrev pub with_counts : Counts → Walk → Walk
 with_counts n w = record { progress = w.progress; machines = w.machines; registers = w.registers; counts = n; result = w.result }
 
 -- the walk as it was, but for these counts and its result
-abbrev pub refused_walk : Walk → Counts → ℕ → ℕ → ℕ → Walk
-refused_walk w n number a r = record {
+abbrev pub refused_walk : Walk → Counts → Refusal → ℕ → ℕ → Walk
+refused_walk w n refusal a r = record {
   progress = w.progress;
   machines = w.machines;
   registers = w.registers;
   counts = n;
-  result = Refused number a r;
+  result = Refused refusal a r;
 }
 
 -- into_function, with the first pool, from the last instruction's end

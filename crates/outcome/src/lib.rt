@@ -8,9 +8,9 @@ ghost use Rattle.context.specs.Turn.{key_or0, no_maps, counts_of};
 ghost use Rattle.rows.specs.Map.{Held, map_in, first_key};
 ghost use Rattle.outcome.specs.Outcome.{state_of, walk_in, with_counts, refused_walk, ends_at, settles, is_refused};
 
-use context::{CALL_ROW, Handled, LABEL_ROW, POOL_ROW, Put, State, TABLE_ROW, Then};
+use base::refusal::Refusal;
+use context::{CALL_ROW, Handled, LABEL_ROW, POOL_ROW, State, TABLE_ROW, Then};
 use registers::Registers;
-use rows::Key;
 use rows::order::clear;
 use rows::search::first;
 use walk::into_function::into_function;
@@ -20,66 +20,45 @@ use walk::{Answer, Counts, Options, Walk};
 pub fn state_of(w: Walk) -> State
     ensures { result ≡ state_of w }
 {
-    let progress = w.progress;
-    let machines = w.machines;
-    let counts = w.counts;
     State {
-        next: progress.address,
-        progress,
-        machines,
-        counts,
-        call: Put::Nothing,
+        next: w.progress.address,
+        progress: w.progress,
+        machines: w.machines,
+        counts: w.counts,
+        call: None,
     }
 }
 
-fn walk_in(s: State, registers: Registers, res: Answer) -> Walk
-    ensures { result ≡ walk_in res registers s }
+fn walk_in(s: State, registers: Registers, answer: Answer) -> Walk
+    ensures { result ≡ walk_in answer registers s }
 {
-    let progress = s.progress;
-    let machines = s.machines;
-    let counts = s.counts;
     Walk {
-        progress,
-        machines,
+        progress: s.progress,
+        machines: s.machines,
         registers,
-        counts,
-        result: res,
+        counts: s.counts,
+        result: answer,
     }
 }
 
 pub fn with_counts(w: Walk, counts: Counts) -> Walk
     ensures { result ≡ with_counts counts w }
 {
-    let progress = w.progress;
-    let machines = w.machines;
-    let registers = w.registers;
-    let result = w.result;
-    Walk {
-        progress,
-        machines,
-        registers,
-        counts,
-        result,
-    }
+    Walk { counts, ..w }
 }
 
 // The walk as it was, but for these counts and its result.
-pub fn refused_walk(w: Walk, counts: Counts, number: u8, address: u32, register: u8) -> Walk
-    ensures { result ≡ refused_walk w counts number address register }
+pub fn refused_walk(w: Walk, counts: Counts, refusal: Refusal, address: u32, register: u8) -> Walk
+    ensures { result ≡ refused_walk w counts refusal address register }
 {
-    let progress = w.progress;
-    let machines = w.machines;
-    let registers = w.registers;
     Walk {
-        progress,
-        machines,
-        registers,
         counts,
         result: Answer::Refused {
-            number,
+            refusal,
             address,
             register,
         },
+        ..w
     }
 }
 
@@ -88,10 +67,7 @@ fn first_pool(pools: &[u32], count: usize) -> u32
     requires { Held pool_row count pools.now }
     ensures { result ≡ key_or0 (first_key (map_in pool_row count pools.now)) }
 {
-    match first(pools, POOL_ROW, count) {
-        Key::Address(address) => address,
-        Key::Nothing => 0,
-    }
+    first(pools, POOL_ROW, count).unwrap_or(0)
 }
 
 // into_function, from the last instruction's end.
@@ -100,8 +76,7 @@ fn end_at(o: Options, s: State, registers: Registers, end: u32, pools: &[u32]) -
     ensures { result ≡ ends_at o (key_or0 (first_key (map_in pool_row s.counts.pools pools.now))) end registers s }
 {
     let p = s.progress;
-    let n = s.counts;
-    let pool = first_pool(pools, n.pools);
+    let pool = first_pool(pools, s.counts.pools);
     let result = into_function(o, p.start, end, p.last_pool_address, pool);
     let mut ended = s;
     ended.progress.address = end;
@@ -113,18 +88,12 @@ pub fn settle(o: Options, w: Walk, h: Handled, pools: &[u32]) -> Walk
     requires { Held pool_row h.stepped.state.counts.pools pools.now }
     ensures { result ≡ settles o w (key_or0 (first_key (map_in pool_row h.stepped.state.counts.pools pools.now))) h.stepped.then h.registers h.stepped.state }
 {
-    let registers = h.registers;
-    let r = h.stepped;
-    let s = r.state;
-    let then = r.then;
-    match then {
-        Then::On => walk_in(s, registers, Answer::Going),
-        Then::Goes => walk_in(s, registers, Answer::Going),
-        Then::Ends(end) => end_at(o, s, registers, end, pools),
-        Then::Refuses { number, register } => {
-            let p = w.progress;
-            let n = s.counts;
-            refused_walk(w, n, number, p.address, register)
+    let s = h.stepped.state;
+    match h.stepped.then {
+        Then::On | Then::Goes => walk_in(s, h.registers, Answer::Going),
+        Then::Ends(end) => end_at(o, s, h.registers, end, pools),
+        Then::Refuses { refusal, register } => {
+            refused_walk(w, s.counts, refusal, w.progress.address, register)
         }
     }
 }
@@ -132,15 +101,7 @@ pub fn settle(o: Options, w: Walk, h: Handled, pools: &[u32]) -> Walk
 pub fn is_refused(answer: Answer) -> bool
     ensures { result ≡ is_refused answer }
 {
-    match answer {
-        Answer::Going => false,
-        Answer::Accepted(_) => false,
-        Answer::Refused {
-            number: _,
-            address: _,
-            register: _,
-        } => true,
-    }
+    matches!(answer, Answer::Refused { .. })
 }
 
 // Every list without its entries: all else is zero already.
@@ -165,11 +126,5 @@ pub fn clear_all(
 pub fn no_counts() -> Counts
     ensures { result ≡ counts_of no_maps }
 {
-    Counts {
-        labels: 0,
-        pools: 0,
-        jump_tables: 0,
-        inline_tables: 0,
-        calls: 0,
-    }
+    Counts::default()
 }

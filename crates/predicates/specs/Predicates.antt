@@ -1,6 +1,6 @@
 -- functions.rs: what the walk asks of one instruction, in the source's names and order.
 -- Assumes nothing.
-use Rattle.std.specs.Prelude.{ℕ, ◌+◌, ◌/◌, ◌*◌, ◌%◌, Bool, true, false, not, eqb, ltb, leb, ℤ, pos, negsuc, ◌+ℤ◌}
+use Rattle.std.specs.Prelude.{ℕ, ◌+◌, ◌/◌, ◌*◌, ◌%◌, Bool, true, false, not, eqb, ltb, leb, ℤ, pos, negsuc, ◌+ℤ◌, Option, Some, None}
 use Rattle.classes.specs.declared.Class.TheVariants.{B, Bl, Blx1, Bx, Push, Pop, Mov, Ldm, Stm, Sub, Ldr, Str, Eor, Add}
 use Rattle.arm.specs.declared.Ins.{Ins}
 use Rattle.classes.specs.declared.Op2.{Op2}
@@ -18,8 +18,8 @@ use Rattle.arm.specs.Ins.{is_conditional}
 use Rattle.analysis.specs.Pattern.{is_when, is_data, is_lsl, is_register, al, sp, lr, pc}
 use Rattle.base.specs.Choice.{pick, both}
 use Rattle.predicates.specs.declared.Previous.{Previous}
-use Rattle.predicates.specs.declared.Callee.{Callee}
-use Rattle.predicates.specs.declared.Callee.TheVariants.{Nothing, Arm, Thumb}
+use Rattle.predicates.specs.declared.Mode.{Mode}
+use Rattle.predicates.specs.declared.Mode.TheVariants.{Arm, Thumb}
 
 -- the condition "not equal", by number
 abbrev pub ne : ℕ
@@ -176,5 +176,5 @@ unfoldable pub as_previous : Ins → Previous
 as_previous i = record { is_branch = is_branch i; is_conditional = is_conditional i.cond; is_adds_four = is_adds_four i }
 
 -- Function::is_function_call
-unfoldable pub called_by : Ins → Callee
-called_by i = pick (is i.class Bl) Arm (pick (is i.class Blx1) Thumb Nothing)
+unfoldable pub called_by : Ins → Option Mode
+called_by i = pick (is i.class Bl) (Some Arm) (pick (is i.class Blx1) (Some Thumb) None)

@@ -2,63 +2,21 @@
 // that word goes, its immediate load or store offset as 32 bits, and its immediate operand. A register in their place is written as 0.
 #![tactic(auto)]
 
-ghost use Rattle.std.specs.Prelude.{◌+◌, ◌≤◌, length};
+ghost use Rattle.std.specs.Prelude.{◌≤◌, length};
 
 use classes::{AddrLdrStr, LdrStrOffset, Op2};
 use std::io::{self, Stdin, Stdout, Write};
 
-fn number(bytes: &[u8], at: usize) -> u32
-    requires { at + 4 ≤ length bytes.now }
-{
-    wide(bytes[at]) * 0x100_0000
-        + wide(bytes[at + 1]) * 0x1_0000
-        + wide(bytes[at + 2]) * 0x100
-        + wide(bytes[at + 3])
-}
-
-fn wide(byte: u8) -> u32
-    ensures { result ≤ 255 }
-{
-    byte as u32
-}
-
-fn offset_bits(offset: LdrStrOffset) -> u32 {
+fn load_offset(addr: AddrLdrStr) -> u32 {
+    let (AddrLdrStr::Pre { offset, .. } | AddrLdrStr::Post { offset, .. }) = addr;
     match offset {
         LdrStrOffset::Imm(z) => modes::offset::pattern(z),
-        LdrStrOffset::Reg {
-            rm: _,
-            shift_op: _,
-            imm: _,
-            subtract: _,
-        } => 0,
-    }
-}
-
-fn load_offset(addr: AddrLdrStr) -> u32 {
-    match addr {
-        AddrLdrStr::Pre {
-            rn: _,
-            offset,
-            writeback: _,
-        } => offset_bits(offset),
-        AddrLdrStr::Post { rn: _, offset } => offset_bits(offset),
+        LdrStrOffset::Reg { .. } => 0,
     }
 }
 
 fn immediate(op2: Op2) -> u32 {
-    match op2 {
-        Op2::Imm(v) => v,
-        Op2::ShiftImm {
-            rm: _,
-            shift_op: _,
-            imm: _,
-        } => 0,
-        Op2::ShiftReg {
-            rm: _,
-            shift_op: _,
-            rs: _,
-        } => 0,
-    }
+    if let Op2::Imm(v) = op2 { v } else { 0 }
 }
 
 // One line of 45 bytes.
@@ -66,23 +24,24 @@ fn put_record(line: &mut [u8], word: u32, address: u32)
     requires { 45 ≤ length line.old }
 {
     let ins = arm::decode(word, address);
-    let addr = ins.addr;
-    let op2 = ins.op2;
     text::put_hex(line, 0, 8, word);
     text::put_hex(line, 9, 8, address);
     text::put_hex(line, 18, 8, ins.target);
-    text::put_hex(line, 27, 8, load_offset(addr));
-    text::put_hex(line, 36, 8, immediate(op2));
+    text::put_hex(line, 27, 8, load_offset(ins.addr));
+    text::put_hex(line, 36, 8, immediate(ins.op2));
 }
 
 // A line for each record; what is left over at the end is none.
 fn write_lines<W: Write>(output: &mut W, input: &[u8]) -> io::Result<()> {
-    let mut i = 0;
-    while 8 <= input.len() - i {
+    let (records, _) = input.as_chunks::<8>();
+    for record in records {
         let mut line = *b"                                            \n";
-        put_record(&mut line, number(input, i), number(input, i + 4));
+        put_record(
+            &mut line,
+            words::word_at(record, 0),
+            words::word_at(record, 4),
+        );
         output.write_all(&line)?;
-        i += 8;
     }
     Ok(())
 }

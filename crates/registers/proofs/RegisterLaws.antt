@@ -1,71 +1,88 @@
--- The laws of the loops over the registers.
+-- The laws of the sets of registers: a set without its lowest register, and the lowest register of one set that is not in another.
 -- Assumes nothing.
-use Rattle.base.proofs.Prelude.{refl, ◌≡◌, ap, List, [], ◌∷◌, ◌++◌, ◌≤◌, ℕ, ◌+◌, ◌<◌, ◌-◌, suc, zero, ◌^◌, ◌/◌, ◌%◌, arith, le_of_suc-le-suc, length}
-use Rattle.base.proofs.Prelude.{drop, take, set, eq-eqb, ne_eqb}
-use lib.Pow.{shr_lt}
+use Rattle.base.proofs.Prelude.{refl, ◌∙◌, ◌≡◌, ap, List, [], ◌∷◌, ℕ, ◌+◌, ◌<◌, ◌-◌, ◌*◌, suc, zero, ◌^◌, ◌/◌, ◌%◌, arith, set}
+use Rattle.std.proofs.Common.{ap₂, min, mod-lt, zero-lt-suc, pow-suc}
+use lib.Bits.{bit_and, and_step, and_self}
+use lib.Count.{count_trailing_zeros}
 use Rattle.registers.specs.Registers.{column_forgotten, missing_from}
 
--- a column that is cleared before register r, once the rest of the set is cleared too
-abbrev pub half : ℕ → ℕ → List ℕ → List ℕ
-half r rest column = take r column ++ column_forgotten rest (drop r column)
-
--- one turn, where the register is in the set and where it is not, and the end, where none is left in it
-pub half_in : (r rest : ℕ) (l : List ℕ) → r < length l → rest % 2 ≡ 1 → half (suc r) (rest / 2) (set l r 0) ≡ half r rest l
+pub none_forgotten : (l : List ℕ) → column_forgotten 0 l ≡ l
 unfolding column_forgotten
-half_in r rest [] h e = absurd (omega arith)
-half_in zero rest (x ∷ l) h e = rw (eq-eqb (rest % 2) 1 e)
-half_in (suc r) rest (x ∷ l) h e = ap (λ (m : List ℕ). x ∷ m) (half_in r rest l (le_of_suc-le-suc h) e)
+none_forgotten [] = refl
+none_forgotten (x ∷ l) = ap (λ (m : List ℕ). x ∷ m) (none_forgotten l)
 
-pub half_out : (r rest : ℕ) (l : List ℕ) → r < length l → (rest % 2 ≡ 1 → ⊥) → half (suc r) (rest / 2) l ≡ half r rest l
+-- ---- a set without its lowest register
+
+abbrev without : ℕ → ℕ
+without rest = bit_and rest (rest - 1)
+
+odd-without : (rest : ℕ) → rest % 2 ≡ 1 → without rest ≡ rest / 2 * 2 + 0
+odd-without rest e =
+    let half : (rest - 1) / 2 ≡ rest / 2 = omega arith in
+    and_step rest (rest - 1) ∙ ap₂ (λ u v. u * 2 + v) (ap (bit_and (rest / 2)) half ∙ and_self (rest / 2)) (omega arith)
+
+even-without : (rest : ℕ) → 0 < rest → rest % 2 ≡ 0 → without rest ≡ without (rest / 2) * 2 + 0
+even-without rest some e =
+    let half : (rest - 1) / 2 ≡ rest / 2 - 1 = omega arith in
+    and_step rest (rest - 1) ∙ ap₂ (λ u v. u * 2 + v) (ap (bit_and (rest / 2)) half) (omega arith)
+
+-- to clear the lowest register and then the others is to clear all
+abbrev Clears : ℕ → ℕ → List ℕ → Type 0
+Clears k rest l = column_forgotten (without rest) (set l (count_trailing_zeros k rest) 0) ≡ column_forgotten rest l
+
+one-clears : (k rest x : ℕ) (l : List ℕ) → 0 < rest → (0 < rest / 2 → Clears k (rest / 2) l) → (b : ℕ) → rest % 2 ≡ b → b < 2 → Clears (suc k) rest (x ∷ l)
+unfolding column_forgotten count_trailing_zeros
+one-clears k rest x l some above zero e b =
+    let w = even-without rest some e in
+    let low : without rest % 2 ≡ 0 = omega arith in
+    let high : without rest / 2 ≡ without (rest / 2) = omega arith in
+    rw (e, low, high) (ap (λ (m : List ℕ). x ∷ m) (above (omega arith)))
+one-clears k rest x l some above (suc zero) e b =
+    let w = odd-without rest e in
+    let low : without rest % 2 ≡ 0 = omega arith in
+    let high : without rest / 2 ≡ rest / 2 = omega arith in
+    rw (e, low, high)
+one-clears k rest x l some above (suc (suc n)) e b = absurd (omega arith)
+
+pub forget_lowest : (k rest : ℕ) (l : List ℕ) → 0 < rest → rest < 2 ^ k
+    → column_forgotten (bit_and rest (rest - 1)) (set l (count_trailing_zeros k rest) 0) ≡ column_forgotten rest l
 unfolding column_forgotten
-half_out r rest [] h e = absurd (omega arith)
-half_out zero rest (x ∷ l) h e = rw (ne_eqb (rest % 2) 1 e)
-half_out (suc r) rest (x ∷ l) h e = ap (λ (m : List ℕ). x ∷ m) (half_out r rest l (le_of_suc-le-suc h) e)
+forget_lowest zero rest l some h = absurd (omega arith)
+forget_lowest (suc k) rest [] some h = refl
+forget_lowest (suc k) rest (x ∷ l) some h =
+    one-clears k rest x l some (λ more. forget_lowest k (rest / 2) l more (omega (arith, pow-suc 2 k))) (rest % 2) refl (mod-lt rest (zero-lt-suc 1))
 
-none-cleared : (l : List ℕ) → column_forgotten 0 l ≡ l
-unfolding column_forgotten
-none-cleared [] = refl
-none-cleared (x ∷ l) = ap (λ (m : List ℕ). x ∷ m) (none-cleared l)
+-- ---- the search from register r on
 
-pub half-none : (r : ℕ) (l : List ℕ) → half r 0 l ≡ l
-unfolding column_forgotten
-half-none zero l = none-cleared l
-half-none (suc r) [] = refl
-half-none (suc r) (x ∷ l) = ap (λ (m : List ℕ). x ∷ m) (half-none r l)
+abbrev Finds : ℕ → ℕ → ℕ → ℕ → Type 0
+Finds n r uses defined = r + count_trailing_zeros n (bit_and uses (2 ^ n - 1 - defined)) ≡ missing_from n r uses defined
 
--- what is left of a set from register r on fits the registers that are left: a set that is not empty leaves one
-module _ (r rest : ℕ) (h : rest < 2 ^ (16 - r)) where
-  pub one_left : (rest ≡ 0 → ⊥) → r < 16
-  one_left some = step (16 - r) refl h
-    where
-      step : (k : ℕ) → 16 - r ≡ k → rest < 2 ^ k → r < 16
-      step zero e f = absurd (some (omega arith))
-      step (suc k) e f = omega arith
+both-low : (n uses defined : ℕ) → defined < 2 ^ suc n → bit_and uses (2 ^ suc n - 1 - defined) % 2 ≡ min (uses % 2) (1 - defined % 2)
+both-low n uses defined h =
+    let bit : (2 ^ suc n - 1 - defined) % 2 ≡ 1 - defined % 2 = omega (arith, pow-suc 2 n) in
+    let step = and_step uses (2 ^ suc n - 1 - defined) in
+    omega arith
 
-  pub half-fits : r < 16 → rest / 2 < 2 ^ (16 - suc r)
-  half-fits l =
-      let left : 16 - r ≡ (16 - suc r) + 1 = omega arith in
-      shr_lt (16 - suc r) 1 (rw left at h)
+both-high : (n uses defined : ℕ) → defined < 2 ^ suc n → bit_and uses (2 ^ suc n - 1 - defined) / 2 ≡ bit_and (uses / 2) (2 ^ n - 1 - defined / 2)
+both-high n uses defined h =
+    let half : (2 ^ suc n - 1 - defined) / 2 ≡ 2 ^ n - 1 - defined / 2 = omega (arith, pow-suc 2 n) in
+    let step = rw half at (and_step uses (2 ^ suc n - 1 - defined)) in
+    omega arith
 
--- the search from register r on: it ends at r, or goes on at the next, where r is not used or is defined
-module _ (r uses defined : ℕ) (h : r < 16) where
-  left : 16 - r ≡ suc (16 - (r + 1))
-  left = omega arith
+one-finds : (n r uses defined : ℕ) → defined < 2 ^ suc n → Finds n (r + 1) (uses / 2) (defined / 2) → (u d : ℕ) → uses % 2 ≡ u → defined % 2 ≡ d → u < 2 → d < 2
+    → Finds (suc n) r uses defined
+unfolding missing_from count_trailing_zeros
+one-finds n r uses defined h rest (suc zero) zero a b f g = rw (both-low n uses defined h, both-high n uses defined h, a, b) (omega arith)
+one-finds n r uses defined h rest zero d a b f g =
+    let low : bit_and uses (2 ^ suc n - 1 - defined) % 2 ≡ 0 = omega (arith, both-low n uses defined h) in
+    rw (low, both-high n uses defined h, a) (omega arith)
+one-finds n r uses defined h rest (suc zero) (suc zero) a b f g = rw (both-low n uses defined h, both-high n uses defined h, a, b) (omega arith)
+one-finds n r uses defined h rest (suc (suc u)) d a b f g = absurd (omega arith)
+one-finds n r uses defined h rest (suc zero) (suc (suc d)) a b f g = absurd (omega arith)
 
-  pub missing-here : uses % 2 ≡ 1 → defined % 2 ≡ 0 → missing_from (16 - r) r uses defined ≡ r
-  unfolding missing_from
-  missing-here u d = rw (left, eq-eqb (uses % 2) 1 u, ne_eqb (defined % 2) 1 (λ e. omega arith))
-
-  pub missing-unused : (uses % 2 ≡ 1 → ⊥) → missing_from (16 - r) r uses defined ≡ missing_from (16 - (r + 1)) (r + 1) (uses / 2) (defined / 2)
-  unfolding missing_from
-  missing-unused u = rw (left, ne_eqb (uses % 2) 1 u)
-
-  pub missing-defined : uses % 2 ≡ 1 → (defined % 2 ≡ 0 → ⊥)
-      → missing_from (16 - r) r uses defined ≡ missing_from (16 - (r + 1)) (r + 1) (uses / 2) (defined / 2)
-  unfolding missing_from
-  missing-defined u d = rw (left, eq-eqb (uses % 2) 1 u, eq-eqb (defined % 2) 1 (omega arith))
-
--- no register is left
-pub missing-none : (r uses defined : ℕ) → 16 ≤ r → missing_from (16 - r) r uses defined ≡ 16
-unfolding missing_from
-missing-none r uses defined h = let none : 16 - r ≡ 0 = omega arith in rw none
+pub missing-lowest : (n r uses defined : ℕ) → r + n ≡ 16 → defined < 2 ^ n → Finds n r uses defined
+unfolding missing_from count_trailing_zeros
+missing-lowest zero r uses defined e h = e
+missing-lowest (suc n) r uses defined e h =
+    one-finds n r uses defined h (missing-lowest n (r + 1) (uses / 2) (defined / 2) (omega arith) (omega (arith, pow-suc 2 n))) (uses % 2) (defined % 2) refl refl
+    (mod-lt uses (zero-lt-suc 1)) (mod-lt defined (zero-lt-suc 1))

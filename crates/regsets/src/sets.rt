@@ -1,17 +1,20 @@
-// The registers that an instruction reads and writes, as sets with bit r for register r, and whether it sets condition flags.
-ghost use Rattle.std.specs.Prelude.{◌≡◌, ◌<◌, ◌^◌};
+// The registers that an instruction reads and writes, as sets with bit r for register r, and whether it sets condition flags. A set is a
+// number, as it is printed.
+ghost use Rattle.std.specs.Prelude.{◌≡◌, ◌<◌, ◌^◌, ◌%◌};
 ghost use Rattle.regsets.specs.Sets.{form_of, uses_of, defs_of, flags_of};
 ghost use Rattle.regsets.specs.Sets.{rn_set, rd_set, rs_set, rm_set, shifter_set, offset2_set, offset3_set};
 ghost use Rattle.regsets.specs.Sets.{indexed_set, written_back_set, pair_set, status_source_set, coprocessor_result_set};
 ghost use Rattle.regsets.specs.Sets.{restores, writes_flags};
 
+use classes::fields::{self, bit};
 use classes::{Class, Form};
 
-const LR: u16 = 0x4000;
+const LR: u16 = 1 << 14;
 
-const PC: u16 = 0x8000;
+const PC: u16 = 1 << 15;
 
 // The one table from instructions to operands.
+#[tactic(auto, unfolding(crate::specs::Sets::form_of))]
 pub fn form(class: Class) -> Form
     ensures { result ≡ form_of class }
 {
@@ -61,7 +64,7 @@ pub fn form(class: Class) -> Form
 }
 
 // The set of one register; below, of the register that a field names.
-fn one(register: u32) -> u16
+fn one(register: u8) -> u16
     requires { register < 16 }
     ensures { result ≡ 2 ^ register }
 {
@@ -71,105 +74,107 @@ fn one(register: u32) -> u16
 fn rn(word: u32) -> u16
     ensures { result ≡ rn_set word }
 {
-    one(word / 0x1_0000 % 16)
+    one(fields::rn(word))
 }
 
 pub fn rd(word: u32) -> u16
     ensures { result ≡ rd_set word }
 {
-    one(word / 0x1000 % 16)
+    one(fields::rd(word))
 }
 
 fn rs(word: u32) -> u16
     ensures { result ≡ rs_set word }
 {
-    one(word / 0x100 % 16)
+    one(fields::rs(word))
 }
 
 fn rm(word: u32) -> u16
     ensures { result ≡ rm_set word }
 {
-    one(word % 16)
+    one(fields::rm(word))
 }
 
 // What addressing mode 1 reads.
+#[tactic(auto, unfolding(crate::specs::Sets::shifter_set))]
 fn shifter(word: u32) -> u16
     ensures { result ≡ shifter_set word }
 {
-    if word / 0x200_0000 % 2 == 1 {
-        return 0;
+    if bit(word, 25) {
+        0
+    } else if bit(word, 4) {
+        rm(word) | rs(word)
+    } else {
+        rm(word)
     }
-    if word / 0x10 % 2 == 1 {
-        return rm(word) | rs(word);
-    }
-    rm(word)
 }
 
-// What the offset of addressing mode 2 reads, and of mode 3.
+// What the offset of addressing mode 2 reads, and of mode 3. Each of these has a bit and a definition of its own.
+#[tactic(auto, unfolding(crate::specs::Sets::offset2_set))]
 fn offset2(word: u32) -> u16
     ensures { result ≡ offset2_set word }
 {
-    if word / 0x200_0000 % 2 == 1 {
-        return rm(word);
-    }
-    0
+    if bit(word, 25) { rm(word) } else { 0 }
 }
 
+#[tactic(auto, unfolding(crate::specs::Sets::offset3_set))]
 fn offset3(word: u32) -> u16
     ensures { result ≡ offset3_set word }
 {
-    if word / 0x40_0000 % 2 == 1 {
-        return 0;
-    }
-    rm(word)
+    if bit(word, 22) { 0 } else { rm(word) }
 }
 
 // The base, where W writes it back; in modes 2 and 3 post-indexing writes it too.
+#[tactic(auto, unfolding(crate::specs::Sets::written_back_set))]
 fn written_back(word: u32) -> u16
     ensures { result ≡ written_back_set word }
 {
-    if word / 0x20_0000 % 2 == 1 {
-        return rn(word);
-    }
-    0
+    if bit(word, 21) { rn(word) } else { 0 }
 }
 
+#[tactic(auto, unfolding(crate::specs::Sets::indexed_set))]
 fn indexed(word: u32) -> u16
     ensures { result ≡ indexed_set word }
 {
-    if word / 0x100_0000 % 2 == 1 {
-        return written_back(word);
+    if bit(word, 24) {
+        written_back(word)
+    } else {
+        rn(word)
     }
-    rn(word)
 }
 
 // An even register and the odd one after it.
 fn pair(word: u32) -> u16
     ensures { result ≡ pair_set word }
 {
-    rd(word) | one(word / 0x1000 % 16 / 2 * 2 + 1)
+    let register = fields::rd(word);
+    one(register) | one(register / 2 * 2 + 1)
 }
 
 // MSR reads Rm unless it has an immediate.
+#[tactic(auto, unfolding(crate::specs::Sets::status_source_set))]
 fn status_source(word: u32) -> u16
     ensures { result ≡ status_source_set word }
 {
-    if word / 0x200_0000 % 2 == 1 {
-        return 0;
-    }
-    rm(word)
+    if bit(word, 25) { 0 } else { rm(word) }
 }
 
 // MRC to R15 writes the condition flags instead.
+#[tactic(auto, unfolding(crate::specs::Sets::coprocessor_result_set))]
 fn coprocessor_result(word: u32) -> u16
     ensures { result ≡ coprocessor_result_set word }
 {
-    if word / 0x1000 % 16 == 15 {
-        return 0;
-    }
-    rd(word)
+    if fields::rd(word) == 15 { 0 } else { rd(word) }
 }
 
+// The list of a block transfer.
+pub fn list(word: u32) -> u16
+    ensures { result ≡ word % 2 ^ 16 }
+{
+    (word & 0xFFFF) as u16
+}
+
+#[tactic(auto, unfolding(crate::specs::Sets::uses_of))]
 pub fn uses(form: Form, word: u32) -> u16
     ensures { result ≡ uses_of form word }
 {
@@ -188,7 +193,7 @@ pub fn uses(form: Form, word: u32) -> u16
         Form::StoreExtra => rd(word) | rn(word) | offset3(word),
         Form::StoreDouble => pair(word) | rn(word) | offset3(word),
         Form::LoadBlock | Form::CoprocessorTransfer => rn(word),
-        Form::StoreBlock => (word % 0x1_0000) as u16 | rn(word),
+        Form::StoreBlock => list(word) | rn(word),
         Form::StatusWrite => status_source(word),
         Form::ToCoprocessor => rd(word),
         Form::PairToCoprocessor => rd(word) | rn(word),
@@ -200,6 +205,7 @@ pub fn uses(form: Form, word: u32) -> u16
     }
 }
 
+#[tactic(auto, unfolding(crate::specs::Sets::defs_of))]
 pub fn defs(form: Form, word: u32) -> u16
     ensures { result ≡ defs_of form word }
 {
@@ -218,7 +224,7 @@ pub fn defs(form: Form, word: u32) -> u16
         Form::Load | Form::LoadExtra => rd(word) | indexed(word),
         Form::LoadDouble => pair(word) | indexed(word),
         Form::Store | Form::StoreExtra | Form::StoreDouble => indexed(word),
-        Form::LoadBlock => (word % 0x1_0000) as u16 | written_back(word),
+        Form::LoadBlock => list(word) | written_back(word),
         Form::StoreBlock | Form::CoprocessorTransfer => written_back(word),
         Form::FromCoprocessor => coprocessor_result(word),
         Form::Compare
@@ -231,25 +237,22 @@ pub fn defs(form: Form, word: u32) -> u16
 }
 
 // LDM with S and PC in its list.
+#[tactic(auto, unfolding(crate::specs::Sets::restores))]
 fn restores_status(word: u32) -> bool
     ensures { result ≡ restores word }
 {
-    if word / 0x40_0000 % 2 == 1 {
-        return word / 0x8000 % 2 == 1;
-    }
-    false
+    bit(word, 22) && bit(word, 15)
 }
 
 // MSR to the CPSR and not the SPSR, with the flag byte in its field mask.
+#[tactic(auto, unfolding(crate::specs::Sets::writes_flags))]
 fn writes_flags(word: u32) -> bool
     ensures { result ≡ writes_flags word }
 {
-    if word / 0x40_0000 % 2 == 1 {
-        return false;
-    }
-    word / 0x8_0000 % 2 == 1
+    !bit(word, 22) && bit(word, 19)
 }
 
+#[tactic(auto, unfolding(crate::specs::Sets::flags_of))]
 pub fn updates_condition_flags(form: Form, word: u32) -> bool
     ensures { result ≡ flags_of form word }
 {
@@ -259,32 +262,11 @@ pub fn updates_condition_flags(form: Form, word: u32) -> bool
         | Form::Multiply
         | Form::MultiplyAdd
         | Form::MultiplyLong
-        | Form::MultiplyAddLong => word / 0x10_0000 % 2 == 1,
+        | Form::MultiplyAddLong => bit(word, 20),
         Form::Compare => true,
         Form::LoadBlock => restores_status(word),
         Form::StatusWrite => writes_flags(word),
-        Form::FromCoprocessor => word / 0x1000 % 16 == 15,
-        Form::Saturate
-        | Form::CountZeros
-        | Form::Branch
-        | Form::BranchLink
-        | Form::BranchRegister
-        | Form::BranchLinkRegister
-        | Form::Trap
-        | Form::Load
-        | Form::Store
-        | Form::Preload
-        | Form::LoadExtra
-        | Form::StoreExtra
-        | Form::LoadDouble
-        | Form::StoreDouble
-        | Form::StoreBlock
-        | Form::Swap
-        | Form::StatusRead
-        | Form::CoprocessorTransfer
-        | Form::ToCoprocessor
-        | Form::PairToCoprocessor
-        | Form::PairFromCoprocessor
-        | Form::Nothing => false,
+        Form::FromCoprocessor => fields::rd(word) == 15,
+        _ => false,
     }
 }

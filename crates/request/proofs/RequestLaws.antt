@@ -5,7 +5,7 @@ use Rattle.base.proofs.Prelude.{eqb-true}
 use Rattle.base.proofs.ChoiceLaws.{both_true}
 use Rattle.base.specs.Choice.{pick}
 use Rattle.words.specs.Lines.{word_at}
-use Rattle.request.specs.declared.Parsed.TheVariants.{Asked, Refused}
+use Rattle.std.specs.Prelude.{Some, None}
 use Rattle.request.specs.declared.Request.{Request}
 use Rattle.request.specs.Request.{stated_length, version, check_byte, code_of, is_request, request_of, parsed}
 
@@ -55,14 +55,14 @@ no-request input none = go (is_request input) refl
 pub code-length : (input : List ℕ) → is_request input ≡ true → length (code_of input) + 22 ≡ stated_length input
 code-length input h = let f = request-fits input h in simp length-drop (omega (arith, f.least, f.whole))
 
-pub asked-length : (input : List ℕ) (r : Request) → parsed input ≡ Asked r → 26 ≤ length input
+pub asked-length : (input : List ℕ) (r : Request) → parsed input ≡ Some r → 26 ≤ length input
 unfolding parsed
 asked-length input r h = go (is_request input) refl h
   where
-    go : (t : Bool) → is_request input ≡ t → pick t (Asked (request_of input)) Refused ≡ Asked r → 26 ≤ length input
+    go : (t : Bool) → is_request input ≡ t → pick t (Some (request_of input)) None ≡ Some r → 26 ≤ length input
     go true e p = request-length input e
     go false e p = let z : ◌≡◌ {A = ℕ} 0 1 = cc in absurd (omega arith)
 
-example-empty : parsed [] ≡ Refused
+example-empty : parsed [] ≡ None
 unfolding parsed is_request word_at
 example-empty = refl

@@ -1,12 +1,8 @@
 -- Document 01: what the listing program reads, byte by byte.
 -- Assumes nothing.
-use Rattle.std.specs.Prelude.{ℕ, ◌+◌, Bool, List, eqb, leb, length, get_or, drop}
+use Rattle.std.specs.Prelude.{ℕ, ◌+◌, Bool, List, Option, Some, None, eqb, leb, length, get_or, drop}
 use Rattle.base.specs.Choice.{pick, both}
-use Rattle.walk.specs.declared.KnownEnd.{KnownEnd}
-use Rattle.walk.specs.declared.KnownEnd.TheVariants.{Nothing, At}
 use Rattle.words.specs.Lines.{word_at}
-use Rattle.request.specs.declared.Parsed.{Parsed}
-use Rattle.request.specs.declared.Parsed.TheVariants.{Asked, Refused}
 use Rattle.request.specs.declared.Request.{Request}
 
 -- the length, 4 bytes; the version, 1; base, module start, module end, start and known end, 4 each; the check byte, 1; and the code
@@ -23,8 +19,8 @@ abbrev pub code_of : List ℕ → List ℕ
 code_of input = drop 26 input
 
 -- 0 is none
-unfoldable pub known_end : ℕ → KnownEnd
-known_end end = pick (eqb end 0) Nothing (At end)
+unfoldable pub known_end : ℕ → Option ℕ
+known_end end = pick (eqb end 0) None (Some end)
 
 unfoldable pub request_of : List ℕ → Request
 request_of input = record {
@@ -48,5 +44,5 @@ is_request input =
     (both (eqb (version input) 1)
     (leb (check_byte input) 1))))
 
-unfoldable pub parsed : List ℕ → Parsed
-parsed input = pick (is_request input) (Asked (request_of input)) Refused
+unfoldable pub parsed : List ℕ → Option Request
+parsed input = pick (is_request input) (Some (request_of input)) None

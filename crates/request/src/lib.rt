@@ -4,7 +4,7 @@
 ghost use Rattle.std.specs.Prelude.{◌≡◌, ◌≤◌, length};
 ghost use Rattle.request.specs.Request.{is_request, known_end, request_of, parsed};
 
-use walk::{KnownEnd, Options};
+use walk::Options;
 
 #[derive(Clone, Copy)]
 pub struct Request {
@@ -12,13 +12,7 @@ pub struct Request {
     pub start: u32,
 }
 
-#[derive(Clone, Copy)]
-pub enum Parsed {
-    Asked(Request),
-    Refused,
-}
-
-// A request has 26 bytes before its code, and its code has at most 16,384.
+// A request has 26 bytes before its code, and its code has at most 16,384. One chain of `&&` was tried, and its proof did not close.
 fn is_request(input: &[u8]) -> bool
     ensures { result ≡ is_request input.now }
 {
@@ -38,15 +32,16 @@ fn is_request(input: &[u8]) -> bool
     input[25] <= 1
 }
 
-fn known_end(end: u32) -> KnownEnd
+fn known_end(end: u32) -> Option<u32>
     ensures { result ≡ known_end end }
 {
     if end == 0 {
-        return KnownEnd::Nothing;
+        return None;
     }
-    KnownEnd::At(end)
+    Some(end)
 }
 
+#[tactic(auto, unfolding(crate::specs::Request::request_of))]
 fn fields(input: &[u8]) -> Request
     requires { 26 ≤ length input.now }
     ensures { result ≡ request_of input.now }
@@ -64,11 +59,12 @@ fn fields(input: &[u8]) -> Request
 }
 
 // The code is what stands from byte 26 on.
-pub fn parse(input: &[u8]) -> Parsed
+pub fn parse(input: &[u8]) -> Option<Request>
     ensures { result ≡ parsed input.now }
 {
     if is_request(input) {
-        return Parsed::Asked(fields(input));
+        Some(fields(input))
+    } else {
+        None
     }
-    Parsed::Refused
 }

@@ -1,51 +1,32 @@
 -- The laws of an insert: the numbers that it moves and writes are those of the map after it.
 -- Assumes nothing.
-use Rattle.base.proofs.Prelude.{◌∙◌, sym, refl, ◌≡◌, ap, false, true, Bool, not, List, [], ◌∷◌, ◌++◌, append_assoc, append-nil, ◌≤◌, ℕ, ◌+◌, ◌<◌}
+use Rattle.base.proofs.Prelude.{◌∙◌, sym, refl, ◌≡◌, ap, false, true, Bool, List, [], ◌∷◌, ◌++◌, append_assoc, ◌≤◌, ℕ, ◌+◌, ◌<◌}
 use Rattle.base.proofs.Prelude.{◌-◌, suc, ◌*◌, zero, arith, le_of_suc-le-suc, not-suc-le-zero, zero-mul, suc-mul, add-one, leb, length, get_or, drop}
-use Rattle.base.proofs.Prelude.{take, replicate, length-set, set, take-append-drop, length-take-le, take_at, drop_at}
+use Rattle.base.proofs.Prelude.{take, replicate, length-set, set, length-take-le, take_at, drop_at}
 use Rattle.base.proofs.Prelude.{get_or-take, le-leb, lt-leb}
-use lib.ListN.{get_or-append}
-use lib.Seq.{slice, paste, take-suc, slice_empty, slice-cons, set_at, append_snoc, take-append-le, drop-append-le, take-append-add, drop-append-add, take-take}
+use Rattle.std.specs.List.{copy_within}
+use Rattle.std.specs.Prelude.{Result, Ok, Err}
+use Rattle.std.proofs.lemmas.List.{drop-take}
+use lib.Seq.{slice, paste, take-append-le, drop-append-le, take-append-add, drop-append-add, take-take}
 use Rattle.base.specs.Choice.{pick}
 use Rattle.rows.specs.Rows.{padded, insert_at, rank, stands, inserted}
 use Rattle.rows.proofs.RowLaws.{insert_at-length, rank-within, stands-within, inserted-is, inserted-length, ascending-kept}
+use Rattle.base.specs.declared.refusal.Refusal.{Refusal}
+use Rattle.base.specs.declared.refusal.Refusal.TheVariants.{ListFull}
 use Rattle.rows.specs.declared.Change.{Change}
-use Rattle.rows.specs.declared.Change.TheVariants.{Added, Replaced, Full}
-use Rattle.rows.specs.Map.{key_of, Wide, Map, flat, encode, map_in, Held, holds_at, opened, answer, map_after, count_after, fits, Inserted, Entering}
-use Rattle.rows.proofs.MapLaws.{row_fits, rows_fit, map-length, count_fits, flat-length, encode-held, held-map, held-flat}
+use Rattle.rows.specs.declared.Change.TheVariants.{Added, Replaced}
+use Rattle.rows.specs.Map.{key_of, Wide, Map, flat, encode, map_in, Held, holds_at, opened, answer, rows_left, fits, Inserted, Entering}
+use Rattle.rows.proofs.MapLaws.{row_fits, rows_fit, map-length, flat-length, encode-held, held-map, held-flat}
 use Rattle.rows.proofs.SearchLaws.{stands_at}
 
--- ---- a turn of the loop that moves the numbers up
+-- ---- the numbers that move up
 
-pub opened-none : (l : List ℕ) (e b : ℕ) → l ≡ opened l e e b
+pub moved-up : (l : List ℕ) (f e n : ℕ) → f ≤ e → copy_within l f e (f + n) ≡ opened l f e n
 unfolding opened
-opened-none l e b = rw (slice_empty e l, append-nil) (sym (take-append-drop (e + b) l))
-
-opened-reads : (l : List ℕ) (i e b : ℕ) → i < e → e + b ≤ length l → get_or (opened l (i + 1) e b) i 0 ≡ get_or l i 0
-unfolding opened
-opened-reads l i e b h f =
-    let long : length (take (i + 1 + b) l) ≡ i + 1 + b = length-take-le (i + 1 + b) l (omega arith) in
-    ap (λ (r : List ℕ). get_or r i 0) (append_assoc (take (i + 1 + b) l) (slice (i + 1) e l) (drop (e + b) l))
-    ∙ get_or-append (take (i + 1 + b) l) (slice (i + 1) e l ++ drop (e + b) l) 0 i (omega arith)
-    ∙ get_or-take (i + 1 + b) l i 0 (omega arith)
-
-opened-more : (l : List ℕ) (i e b : ℕ) → i < e → e + b ≤ length l → set (opened l (i + 1) e b) (i + b) (get_or l i 0) ≡ opened l i e b
-unfolding opened
-opened-more l i e b h f =
-    let p = take (i + b) l in
-    let s = slice (suc i) e l in
-    let d = drop (e + b) l in
-    let long : length p ≡ i + b = length-take-le (i + b) l (omega arith) in
-    let same : i + 1 + b ≡ suc (i + b) = omega arith in
-    let front : take (i + 1 + b) l ≡ p ++ (get_or l (i + b) 0 ∷ []) = ap (λ (j : ℕ). take j l) same ∙ take-suc l (i + b) 0 (omega arith) in
-    rw (front, add-one i, append_snoc p (get_or l (i + b) 0) s, append_assoc p (get_or l (i + b) 0 ∷ s) d)
-    (set_at p (get_or l (i + b) 0) (s ++ d) (get_or l i 0) (i + b) long
-    ∙ sym (append_assoc p (get_or l i 0 ∷ s) d)
-    ∙ rw (slice-cons i e l 0 h (omega arith)))
-
-pub opened-turn : (l : List ℕ) (i j e b : ℕ) → j ≡ i + 1 → i < e → e + b ≤ length l
-    → set (opened l j e b) (i + b) (get_or (opened l j e b) i 0) ≡ opened l i e b
-opened-turn l i j e b q h f = rw (q, opened-reads l i e b h f) (opened-more l i e b h f)
+moved-up l f e n h =
+    let part : drop f (take e l) ≡ take (e - f) (drop f l) = (let w : f + (e - f) ≡ e = omega arith in rw w at (drop-take f (e - f) l)) in
+    let rest : f + n + (e - f) ≡ e + n = omega arith in
+    rw (rest, part)
 
 -- ---- a row among rows, number by number
 
@@ -129,7 +110,7 @@ module _ {k n : ℕ} {list : List ℕ} (row : List ℕ) (h : Held k n list) (wid
   place-held : stands key_of (key_of r) m ≡ true → p * k + k ≤ n * k
   place-held s = row_fits p n k (omega (arith, stands-within key_of (key_of r) m s, map-length k n list)) (omega arith)
 
-  replaced : {after : List ℕ} → stands key_of (key_of r) m ≡ true → after ≡ paste list (p * k) row k → Inserted k n list r Replaced after
+  replaced : {after : List ℕ} → stands key_of (key_of r) m ≡ true → after ≡ paste list (p * k) row k → Inserted k n list r (Ok Replaced) after
   unfolding answer padded
   replaced {after} s e =
       let many : length m ≡ n = map-length k n list in
@@ -146,7 +127,7 @@ module _ {k n : ℕ} {list : List ℕ} (row : List ℕ) (h : Held k n list) (wid
       record { says = rw s; held = done.0; leaves = done.1 ∙ sym same }
 
   added : {after : List ℕ} → stands key_of (key_of r) m ≡ false → n * k + k ≤ length list
-      → after ≡ paste (opened list (p * k) (n * k) k) (p * k) row k → Inserted k n list r Added after
+      → after ≡ paste (opened list (p * k) (n * k) k) (p * k) row k → Inserted k n list r (Ok Added) after
   unfolding answer padded
   added {after} s room e =
       let many : length m ≡ n = map-length k n list in
@@ -168,7 +149,7 @@ module _ {k n : ℕ} {list : List ℕ} (row : List ℕ) (h : Held k n list) (wid
       let done = encode-held (insert_at p r m) h.some is (rw more (omega arith)) (add-one n ∙ sym more) left in
       record { says = rw (s, many, le-leb (n * k + k) (length list) room); held = done.0; leaves = done.1 ∙ sym same }
 
-  full : stands key_of (key_of r) m ≡ false → length list < n * k + k → Inserted k n list r Full list
+  full : stands key_of (key_of r) m ≡ false → length list < n * k + k → Inserted k n list r (Err ListFull) list
   unfolding answer
   full s none = record {
     says = rw (s, map-length k n list, lt-leb (n * k + k) (length list) none);
@@ -198,50 +179,51 @@ module _ {k n : ℕ} {list : List ℕ} (row : List ℕ) (h : Held k n list) (wid
   before-end = rw place (place-fits row h wide)
 
   pub replaces : {after : List ℕ} → true ≡ holds_at (map_in k n list) at (get_or row 0 0) → after ≡ paste list (at * k) row k
-      → Inserted k n list (take k row) Replaced after
+      → Inserted k n list (take k row) (Ok Replaced) after
   replaces e left = replaced row h wide (standing e) (rw (← place) left)
 
   pub adds : {after : List ℕ} → false ≡ holds_at (map_in k n list) at (get_or row 0 0) → n * k + k ≤ length list
-      → after ≡ paste (opened list (at * k) (n * k) k) (at * k) row k → Inserted k n list (take k row) Added after
+      → after ≡ paste (opened list (at * k) (n * k) k) (at * k) row k → Inserted k n list (take k row) (Ok Added) after
   adds e room left = added row h wide (standing e) room (rw (← place) left)
 
-  pub is-full : false ≡ holds_at (map_in k n list) at (get_or row 0 0) → length list < n * k + k → Inserted k n list (take k row) Full list
+  pub is-full : false ≡ holds_at (map_in k n list) at (get_or row 0 0) → length list < n * k + k → Inserted k n list (take k row) (Err ListFull) list
   is-full e none = full row h wide (standing e) none
 
--- ---- the answer, as whether the map after it fits
+-- ---- the answer with the count after it
 
-abbrev full_by : Change → Bool
-full_by Added = false
-full_by Replaced = false
-full_by Full = true
+abbrev entered_by : Result Change Refusal → ℕ → Result ℕ Refusal
+entered_by (Ok Added) n = Ok (n + 1)
+entered_by (Ok Replaced) n = Ok n
+entered_by (Err refusal) n = Err refusal
 
-answer-fits : (k places : ℕ) (row : List ℕ) (m : List (List ℕ)) → length m * k ≤ places
-    → full_by (answer k places row m) ≡ not (fits k places (inserted key_of row m))
+-- it says whether the map after it fits
+abbrev Fitting : Bool → ℕ → Result ℕ Refusal → Type 0
+Fitting fits n r = r ≡ pick fits (Ok (rows_left r n)) (Err ListFull)
+
+answer-fits : (k places n : ℕ) (row : List ℕ) (m : List (List ℕ)) → length m * k ≤ places
+    → Fitting (fits k places (inserted key_of row m)) n (entered_by (answer k places row m) n)
 unfolding answer
-answer-fits k places row m h = step (stands key_of (key_of row) m) (inserted-length key_of row m)
+answer-fits k places n row m h = step (stands key_of (key_of row) m) (inserted-length key_of row m)
   where
-    more : (b : Bool) → leb (length m * k + k) places ≡ b → full_by (pick b Added Full) ≡ not (leb (length m * k + k) places)
+    more : (b : Bool) → leb (length m * k + k) places ≡ b → Fitting (leb (length m * k + k) places) n (entered_by (pick b (Ok Added) (Err ListFull)) n)
     more true e = rw e
     more false e = rw e
 
     step : (s : Bool) → length (inserted key_of row m) ≡ pick s (length m) (suc (length m))
-        → full_by (pick s Replaced (pick (leb (length m * k + k) places) Added Full)) ≡ not (leb (length (inserted key_of row m) * k) places)
+        → Fitting (leb (length (inserted key_of row m) * k) places) n (entered_by (pick s (Ok Replaced) (pick (leb (length m * k + k) places) (Ok Added) (Err ListFull))) n)
     step true e = rw (e, le-leb (length m * k) places h)
     step false e = rw (e, suc-mul (length m) k) (more (leb (length m * k + k) places) refl)
 
-pub entered : {k n : ℕ} {list row after : List ℕ} {r : Change} → Held k n list → Inserted k n list row r after
-    → Entering k n list row (record { full = full_by r; count = count_after r n }) after
-entered {k} {n} {list} {row} {after} {r} h i = record {
-  held = i.held;
-  says = ap full_by i.says ∙ answer-fits k (length list) row (map_in k n list) (rw (map-length k n list) h.fits);
-  leaves = i.leaves ∙ both r;
-}
+pub entered : {k n : ℕ} {list row after : List ℕ} (r : Result Change Refusal) → Held k n list → Inserted k n list row r after
+    → Entering k n list row (entered_by r n) after
+entered {k} {n} {list} {row} {after} r h i = step r says i
   where
-    both : (c : Change) → map_after c row (map_in k n list) ≡ pick (full_by c) (map_in k n list) (inserted key_of row (map_in k n list))
-    both Added = refl
-    both Replaced = refl
-    both Full = refl
+    says : Fitting (fits k (length list) (inserted key_of row (map_in k n list))) n (entered_by r n)
+    says =
+        rw (sym i.says) at (answer-fits k (length list) n row (map_in k n list) (rw (map-length k n list) h.fits))
 
--- one more row can be counted
-pub countable : {k n : ℕ} {list row after : List ℕ} → Inserted k n list row Added after → n + 1 ≤ length after
-countable i = count_fits i.held
+    step : (r : Result Change Refusal) → Fitting (fits k (length list) (inserted key_of row (map_in k n list))) n (entered_by r n) → Inserted k n list row r after
+        → Entering k n list row (entered_by r n) after
+    step (Ok Added) e j = record { held = j.held; says = e; leaves = j.leaves }
+    step (Ok Replaced) e j = record { held = j.held; says = e; leaves = j.leaves }
+    step (Err refusal) e j = record { held = j.held; says = e; leaves = j.leaves }

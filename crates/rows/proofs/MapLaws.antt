@@ -4,9 +4,10 @@ use Rattle.base.proofs.Prelude.{◌∙◌, sym, refl, ◌≡◌, ap, false, true
 use Rattle.base.proofs.Prelude.{zero, arith, le_of_suc-le-suc, not-suc-le-zero, add-zero, zero-mul, suc-mul, leb, length, get_or, drop, take, replicate}
 use Rattle.base.proofs.Prelude.{length-drop, length-append, length-replicate, length-take-le, take_at, drop_at, drop-drop, get_or-drop, get_or-take}
 use Rattle.base.proofs.Prelude.{le-leb, leb-true}
-use native.Mathlib.Nat.{mul-le-mul_left, mul-le-mul_right}
+use native.Mathlib.Nat.{mul-le-mul_right}
 use lib.ListN.{replicate-append-replicate, get_or-map}
 use lib.Seq.{take-add}
+use Rattle.std.specs.Simd.{first_chunks}
 use Rattle.rows.specs.Order.{rising, ascending, zeros, cleared}
 use Rattle.rows.specs.Rows.{padded}
 use Rattle.rows.proofs.OrderLaws.{zeros-replicate, cleared-padded, padded-cleared}
@@ -26,6 +27,13 @@ pub map-length : (k n : ℕ) (xs : List ℕ) → length (map_in k n xs) ≡ n
 unfolding map_in
 map-length k zero xs = refl
 map-length k (suc n) xs = ap suc (map-length k n (drop k xs))
+
+-- the library's chunks are the rows
+pub chunks-are : (k n m : ℕ) (xs : List ℕ) → n ≤ m → take n (first_chunks k m xs) ≡ map_in k n xs
+unfolding map_in
+chunks-are k zero m xs h = refl
+chunks-are k (suc n) zero xs h = absurd (not-suc-le-zero h)
+chunks-are k (suc n) (suc m) xs h = ap (λ (rs : List (List ℕ)). take k xs ∷ rs) (chunks-are k n m (drop k xs) (le_of_suc-le-suc h))
 
 row_at : (k n i : ℕ) (xs : List ℕ) → i < n → get_or (map_in k n xs) i [] ≡ take k (drop (i * k) xs)
 unfolding map_in
@@ -99,10 +107,6 @@ encode-held {k} {n} {places} {list} m s is h many e =
     (record { some = s; fits = rw many (omega arith); rises = rw back is.rises; holds = rw (back, long) e }, back)
 
 module _ {k n : ℕ} {list : List ℕ} (h : Held k n list) where
-  -- no more rows than places
-  pub count_fits : n ≤ length list
-  count_fits = let up : n * 1 ≤ n * k = mul-le-mul_left n h.some in omega (arith, h.fits)
-
   pub held-map : Map k (map_in k n list)
   held-map = record { wide = map-wide k n list h.fits; rises = h.rises }
 

@@ -2,10 +2,12 @@
 -- Assumes nothing.
 use Rattle.base.proofs.Prelude.{◌∙◌, sym, refl, ◌≡◌, ap, false, true, List, [], ◌∷◌, ◌++◌, ◌≤◌, ℕ, ◌+◌, ◌<◌, ◌-◌, suc, zero, arith}
 use Rattle.base.proofs.Prelude.{le_of_suc-le-suc, not-suc-le-zero, add-one, eqb, ltb, leb, length, get_or, drop, take, replicate, length-drop}
-use Rattle.base.proofs.Prelude.{length-append, drop_of_length-le, take-append-drop, drop-cons, length-take-le, eq-eqb, ne_eqb, lt-ltb, le-ltb, le-leb}
+use Rattle.base.proofs.Prelude.{length-append, take-append-drop, length-take-le, eq-eqb, lt-ltb, le-ltb, le-leb}
 use Rattle.base.proofs.Prelude.{leb-true, eqb-true, ltb-true}
 use native.Mathlib.Nat.{lt_trans}
 use lib.Seq.{slice-cons, slice_empty, drop-append_seam}
+use Rattle.std.specs.Prelude.{Bool, ◌&&◌}
+use Rattle.std.specs.List.{list_all}
 use Rattle.base.specs.Choice.{pick}
 use Rattle.base.proofs.ChoiceLaws.{both_first, both-second}
 use Rattle.rows.specs.Order.{rising, ascending, zeros, cleared}
@@ -55,19 +57,17 @@ padded-cleared m xs h =
     let long : length xs ≤ length (xs ++ replicate {A = ℕ} (m - length xs) 0) = simp length-append (omega arith) in
     rw (le-leb _ _ long, drop-append_seam xs (replicate (m - length xs) 0)) (replicate-zeros (m - length xs))
 
--- ---- turns of the loops
-
-pub zeros-some : (c : List ℕ) (i : ℕ) → i < length c → (get_or c i 0 ≡ 0 → ⊥) → zeros (drop i c) ≡ false
+-- the test, as that each number is zero
+pub zeros-all : (xs : List ℕ) → list_all (λ x. eqb x 0) xs ≡ zeros xs
 unfolding zeros
-zeros-some c i h d = rw (drop-cons c i 0 h, ne_eqb (get_or c i 0) 0 d)
+zeros-all [] = refl
+zeros-all (x ∷ xs) = step (eqb x 0) (zeros-all xs)
+  where
+    step : (b : Bool) → list_all (λ x. eqb x 0) xs ≡ zeros xs → (b && list_all (λ x. eqb x 0) xs) ≡ pick b (zeros xs) false
+    step true e = e
+    step false e = refl
 
-pub zeros-more : (c : List ℕ) (i : ℕ) → i < length c → get_or c i 0 ≡ 0 → zeros (drop i c) ≡ zeros (drop (i + 1) c)
-unfolding zeros
-zeros-more c i h e = rw (drop-cons c i 0 h, eq-eqb (get_or c i 0) 0 e, add-one)
-
-pub zeros-done : (c : List ℕ) (i : ℕ) → length c ≤ i → zeros (drop i c) ≡ true
-unfolding zeros
-zeros-done c i h = rw (drop_of_length-le c h)
+-- ---- turns of the loop over the addresses
 
 pub rising-start : (c : List ℕ) (n : ℕ) → 0 < n → n ≤ length c → ascending (take n c) ≡ rising (get_or c 0 0) (drop 1 (take n c))
 unfolding ascending

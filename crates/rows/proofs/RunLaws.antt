@@ -4,11 +4,10 @@ use Rattle.base.proofs.Prelude.{refl, ◌≡◌, false, true, Bool, ◌≤◌, �
 use Rattle.base.proofs.Prelude.{ltb, lt-ltb, le-ltb, ltb-true, ltb-false}
 use Rattle.base.specs.Choice.{choose}
 use Rattle.rows.specs.Run.{gap_by, gap_from}
-use Rattle.rows.specs.declared.Gap.{Gap}
-use Rattle.rows.specs.declared.Gap.TheVariants.{At, Beyond}
+use Rattle.std.specs.Prelude.{Option, Some, None}
 
 -- what is left of the run, from x on, still leads to g
-pub record Going (test : ℕ → Bool) (g : Gap) (x : ℕ) : Type 0 where
+pub record Going (test : ℕ → Bool) (g : Option ℕ) (x : ℕ) : Type 0 where
   pub fuel : ℕ
   pub enough : 2 ^ 32 - x ≤ fuel
   pub same : gap_by test fuel x ≡ g
@@ -17,7 +16,7 @@ pub going_start : (test : ℕ → Bool) (x : ℕ) → Going test (gap_from test 
 unfolding gap_from
 going_start test x = record { fuel = 2 ^ 32 - x; enough = omega arith; same = refl }
 
-module _ {test : ℕ → Bool} {g : Gap} {x : ℕ} (fits : x < 2 ^ 32) (going : Going test g x) where
+module _ {test : ℕ → Bool} {g : Option ℕ} {x : ℕ} (fits : x < 2 ^ 32) (going : Going test g x) where
   pub going_on : test x ≡ true → x + 4 < 2 ^ 32 → Going test g (x + 4)
   unfolding gap_by
   going_on t h = go going.fuel going.enough going.same
@@ -26,19 +25,19 @@ module _ {test : ℕ → Bool} {g : Gap} {x : ℕ} (fits : x < 2 ^ 32) (going : 
       go zero e s = absurd (omega arith)
       go (suc f) e s = record { fuel = f; enough = omega arith; same = rw (t, lt-ltb (x + 4) (2 ^ 32) h) at s }
 
-  pub going-beyond : test x ≡ true → 2 ^ 32 ≤ x + 4 → Beyond ≡ g
+  pub going-beyond : test x ≡ true → 2 ^ 32 ≤ x + 4 → None ≡ g
   unfolding gap_by
   going-beyond t h = go going.fuel going.enough going.same
     where
-      go : (f : ℕ) → 2 ^ 32 - x ≤ f → gap_by test f x ≡ g → Beyond ≡ g
+      go : (f : ℕ) → 2 ^ 32 - x ≤ f → gap_by test f x ≡ g → None ≡ g
       go zero e s = absurd (omega arith)
       go (suc f) e s = rw (t, le-ltb (x + 4) (2 ^ 32) h) at s
 
-  pub going_end : test x ≡ false → At x ≡ g
+  pub going_end : test x ≡ false → Some x ≡ g
   unfolding gap_by
   going_end t = go going.fuel going.enough going.same
     where
-      go : (f : ℕ) → 2 ^ 32 - x ≤ f → gap_by test f x ≡ g → At x ≡ g
+      go : (f : ℕ) → 2 ^ 32 - x ≤ f → gap_by test f x ≡ g → Some x ≡ g
       go zero e s = absurd (omega arith)
       go (suc f) e s = rw t at s
 
@@ -61,31 +60,31 @@ module _ (test : ℕ → Bool) where
           let same : x + 4 + 4 * j ≡ x + 4 * suc j = omega arith in
           rw same at (next.before j (le_of_suc-le-suc l))
 
-  gapped-by : (f x g : ℕ) → gap_by test f x ≡ At g → Gapped test x g
+  gapped-by : (f x g : ℕ) → gap_by test f x ≡ Some g → Gapped test x g
   unfolding gap_by
   gapped-by zero x g e = absurd (let z : ◌≡◌ {A = ℕ} 0 1 = cc in omega arith)
   gapped-by (suc f) x g e = step (test x) (ltb (x + 4) (2 ^ 32)) refl e (gapped-by f (x + 4) g)
     where
-      step : (s t : Bool) → test x ≡ s → choose s (λ _. choose t (λ _. gap_by test f (x + 4)) (λ _. Beyond)) (λ _. At x) ≡ At g
-          → (gap_by test f (x + 4) ≡ At g → Gapped test (x + 4) g) → Gapped test x g
+      step : (s t : Bool) → test x ≡ s → choose s (λ _. choose t (λ _. gap_by test f (x + 4)) (λ _. None)) (λ _. Some x) ≡ Some g
+          → (gap_by test f (x + 4) ≡ Some g → Gapped test (x + 4) g) → Gapped test x g
       step true true u e more = gapped-more x g u (more e)
       step true false u e more = absurd (let z : ◌≡◌ {A = ℕ} 0 1 = cc in omega arith)
       step false t u e more =
           let same : x ≡ g = cc in
           record { steps = 0; is = omega arith; free = rw same at u; before = λ j l. absurd (not-suc-le-zero l) }
 
-  pub gap_at : (x g : ℕ) → gap_from test x ≡ At g → Gapped test x g
+  pub gap_at : (x g : ℕ) → gap_from test x ≡ Some g → Gapped test x g
   unfolding gap_from
   gap_at x g e = gapped-by (2 ^ 32 - x) x g e
 
-  none-by : (f x : ℕ) → x < 2 ^ 32 → 2 ^ 32 - x ≤ f → gap_by test f x ≡ Beyond → (j : ℕ) → x + 4 * j < 2 ^ 32 → test (x + 4 * j) ≡ true
+  none-by : (f x : ℕ) → x < 2 ^ 32 → 2 ^ 32 - x ≤ f → gap_by test f x ≡ None → (j : ℕ) → x + 4 * j < 2 ^ 32 → test (x + 4 * j) ≡ true
   unfolding gap_by
   none-by zero x h m e j l = absurd (omega arith)
   none-by (suc f) x h m e j l =
       step (test x) (ltb (x + 4) (2 ^ 32)) refl refl e (λ k. none-by f (x + 4) k (omega arith)) j l
     where
-      step : (s t : Bool) → test x ≡ s → ltb (x + 4) (2 ^ 32) ≡ t → choose s (λ _. choose t (λ _. gap_by test f (x + 4)) (λ _. Beyond)) (λ _. At x) ≡ Beyond
-          → (x + 4 < 2 ^ 32 → gap_by test f (x + 4) ≡ Beyond → (j : ℕ) → x + 4 + 4 * j < 2 ^ 32 → test (x + 4 + 4 * j) ≡ true)
+      step : (s t : Bool) → test x ≡ s → ltb (x + 4) (2 ^ 32) ≡ t → choose s (λ _. choose t (λ _. gap_by test f (x + 4)) (λ _. None)) (λ _. Some x) ≡ None
+          → (x + 4 < 2 ^ 32 → gap_by test f (x + 4) ≡ None → (j : ℕ) → x + 4 + 4 * j < 2 ^ 32 → test (x + 4 + 4 * j) ≡ true)
           → (j : ℕ) → x + 4 * j < 2 ^ 32 → test (x + 4 * j) ≡ true
       step false t u v e more j l = absurd (let z : ◌≡◌ {A = ℕ} 0 1 = cc in omega arith)
       step true t u v e more zero l = let same : x ≡ x + 4 * zero = omega arith in rw (← same) u
@@ -97,7 +96,7 @@ module _ (test : ℕ → Bool) where
           absurd (omega arith)
 
   -- every address of the run that fits 32 bits is held
-  pub gap-none : (x : ℕ) → x < 2 ^ 32 → gap_from test x ≡ Beyond → (j : ℕ) → x + 4 * j < 2 ^ 32 → test (x + 4 * j) ≡ true
+  pub gap-none : (x : ℕ) → x < 2 ^ 32 → gap_from test x ≡ None → (j : ℕ) → x + 4 * j < 2 ^ 32 → test (x + 4 * j) ≡ true
   unfolding gap_from
   gap-none x h e j l = none-by (2 ^ 32 - x) x h (omega arith) e j l
 

@@ -1,6 +1,6 @@
 -- The laws of the lookups: an address's place among the rows, met from below and from above.
 -- Assumes nothing.
-use Rattle.base.proofs.Prelude.{◌∙◌, sym, refl, ◌≡◌, false, true, Bool, List, [], ◌∷◌, map, ◌≤◌, ℕ, ◌+◌, ◌<◌, ◌-◌, suc, ◌*◌, zero, ◌^◌, ◌/◌}
+use Rattle.base.proofs.Prelude.{◌∙◌, sym, refl, ◌≡◌, false, true, Bool, List, [], ◌∷◌, map, ◌≤◌, ℕ, ◌+◌, ◌<◌, ◌-◌, suc, zero, ◌^◌, ◌/◌}
 use Rattle.base.proofs.Prelude.{zero-le, suc-le-suc, arith, le_of_suc-le-suc, not-suc-le-zero, eqb, ltb, length, get_or, take, eq-eqb, ne_eqb, lt-ltb}
 use Rattle.base.proofs.Prelude.{le-ltb, ltb-true, ltb-false}
 use lib.Dec.{leb-suc-suc}
@@ -10,12 +10,12 @@ use Rattle.base.specs.Choice.{pick}
 use Rattle.rows.specs.Order.{rising, ascending}
 use Rattle.rows.specs.Rows.{rank, stands}
 use Rattle.rows.specs.Run.{gap_from}
-use Rattle.rows.specs.declared.Gap.TheVariants.{At, Beyond}
+use Rattle.std.specs.Prelude.{Some, None}
+use Rattle.std.specs.Bool.{then_some}
 use Rattle.rows.proofs.OrderLaws.{rising-at, rising-ascending}
 use Rattle.rows.proofs.RunLaws.{Going, going_start, going_on, going-beyond, going_end}
-use Rattle.rows.specs.declared.Key.TheVariants.{Address, Nothing}
 use Rattle.rows.specs.Map.{key_of, map_in, holds_at, first_key, last_key, stands-in}
-use Rattle.rows.proofs.MapLaws.{row_fits, map-length}
+use Rattle.rows.proofs.MapLaws.{map-length}
 
 -- the rows' addresses
 abbrev pub keys_in : ℕ → ℕ → List ℕ → List ℕ
@@ -30,9 +30,6 @@ keys-whole k n list = take_all n (keys_in k n list) (omega (arith, keys_length k
 -- the row in the middle
 abbrev pub mid : ℕ → ℕ → ℕ
 mid lo hi = lo + (hi - lo) / 2
-
-pub mid_row : (k n lo hi : ℕ) {len : ℕ} → lo < hi → hi ≤ n → n * k ≤ len → mid lo hi * k + k ≤ len
-mid_row k n lo hi l h f = row_fits (mid lo hi) n k (omega arith) f
 
 -- ---- an address's place
 
@@ -73,14 +70,19 @@ stands_at (r ∷ rs) x = step (ltb (key_of r) x) (stands_at rs x)
     step true e = rw (leb-suc-suc (suc (rank key_of x rs)) (length rs)) e
     step false e = rw (lt-ltb 0 (suc (length rs)) (suc-le-suc zero-le))
 
+-- the place where a test holds
+pub then-pick : (b : Bool) (i : ℕ) → then_some b i ≡ pick b (Some i) None
+then-pick true i = refl
+then-pick false i = refl
+
 -- ---- the first and the last row
 
-pub first-is : (m : List (List ℕ)) → 0 < length m → Address (key_of (get_or m 0 [])) ≡ first_key m
+pub first-is : (m : List (List ℕ)) → 0 < length m → Some (key_of (get_or m 0 [])) ≡ first_key m
 unfolding first_key
 first-is [] h = absurd (not-suc-le-zero h)
 first-is (r ∷ rs) h = refl
 
-pub last-is : (m : List (List ℕ)) (i : ℕ) → length m ≡ suc i → Address (key_of (get_or m i [])) ≡ last_key m
+pub last-is : (m : List (List ℕ)) (i : ℕ) → length m ≡ suc i → Some (key_of (get_or m i [])) ≡ last_key m
 unfolding last_key
 last-is [] i h = absurd (omega arith)
 last-is (r ∷ []) zero h = refl
@@ -88,12 +90,12 @@ last-is (r ∷ []) (suc i) h = absurd (omega arith)
 last-is (r ∷ s ∷ rs) zero h = absurd (omega arith)
 last-is (r ∷ s ∷ rs) (suc i) h = last-is (s ∷ rs) i (omega arith)
 
-pub none_first : (m : List (List ℕ)) → length m ≡ 0 → Nothing ≡ first_key m
+pub none_first : (m : List (List ℕ)) → length m ≡ 0 → None ≡ first_key m
 unfolding first_key
 none_first [] h = refl
 none_first (r ∷ rs) h = absurd (omega arith)
 
-pub none_last : (m : List (List ℕ)) → length m ≡ 0 → Nothing ≡ last_key m
+pub none_last : (m : List (List ℕ)) → length m ≡ 0 → None ≡ last_key m
 unfolding last_key
 none_last [] h = refl
 none_last (r ∷ rs) h = absurd (omega arith)
@@ -131,11 +133,11 @@ module _ (m : List (List ℕ)) (rises : ascending (map key_of m) ≡ true) (addr
         sym (stands_at m x) ∙ rw (here, lt-ltb at (length m) room) (eq-eqb (key_of (get_or m at [])) x same)
 
     -- a row above ends the run, and so does the map's end
-    pub scan-gap : (at < length m → x < key_of (get_or m at [])) → At x ≡ gap_from (stands-in m) address
+    pub scan-gap : (at < length m → x < key_of (get_or m at [])) → Some x ≡ gap_from (stands-in m) address
     scan-gap over = going_end scan.fits scan.going (missing over)
 
     -- an address that is held leads on, or beyond
-    pub scan-beyond : at < length m → key_of (get_or m at []) ≡ x → 2 ^ 32 ≤ x + 4 → Beyond ≡ gap_from (stands-in m) address
+    pub scan-beyond : at < length m → key_of (get_or m at []) ≡ x → 2 ^ 32 ≤ x + 4 → None ≡ gap_from (stands-in m) address
     scan-beyond room same high = going-beyond scan.fits scan.going (standing room same) high
 
     pub scan-held : at < length m → key_of (get_or m at []) ≡ x → x + 4 < 2 ^ 32 → Scanned m address (x + 4) (at + 1)

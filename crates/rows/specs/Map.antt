@@ -1,18 +1,16 @@
 -- A map is rows, ascending strictly by their first number, the address. A lent slice holds it: the rows one after another, and zeros
 -- after them.
 -- Assumes nothing.
-use Rattle.std.specs.Prelude.{◌≡◌, Bool, true, false, not, List, [], ◌∷◌, ◌++◌, map, ℕ, zero, suc, ◌+◌, ◌*◌, ◌≤◌, ◌<◌, ltb, leb, eqb, length, get_or, take, drop}
+use Rattle.std.specs.Prelude.{◌≡◌, Bool, true, false, not, List, [], ◌∷◌, ◌++◌, map, ℕ, zero, suc, ◌+◌, ◌*◌, ◌≤◌, ◌<◌, ltb, leb, eqb, length, get_or, take, drop, Option, Some, None, Result, Ok, Err}
 use Rattle.std.proofs.Math.Seq.{slice}
+use Rattle.std.specs.Result.{is_ok}
 use Rattle.base.specs.Choice.{pick}
 use Rattle.rows.specs.Order.{ascending, zeros}
 use Rattle.rows.specs.Rows.{padded, rank, stands, inserted}
-use Rattle.rows.specs.declared.Found.{Found}
-use Rattle.rows.specs.declared.Found.TheVariants.{At, Missing}
-use Rattle.rows.specs.declared.Key.{Key}
-use Rattle.rows.specs.declared.Key.TheVariants.{Address, Nothing}
-use Rattle.rows.specs.declared.Entered.{Entered}
+use Rattle.base.specs.declared.refusal.Refusal.{Refusal}
+use Rattle.base.specs.declared.refusal.Refusal.TheVariants.{ListFull}
 use Rattle.rows.specs.declared.Change.{Change}
-use Rattle.rows.specs.declared.Change.TheVariants.{Added, Replaced, Full}
+use Rattle.rows.specs.declared.Change.TheVariants.{Added, Replaced}
 
 -- a row's first number is its address
 abbrev pub key_of : List ℕ → ℕ
@@ -61,20 +59,20 @@ in_order stride count list =
 unfoldable pub holds_at : List (List ℕ) → ℕ → ℕ → Bool
 holds_at m i x = pick (ltb i (length m)) (eqb (key_of (get_or m i [])) x) false
 
-unfoldable pub index_of : ℕ → List (List ℕ) → Found
-index_of x m = pick (stands key_of x m) (At (rank key_of x m)) Missing
+unfoldable pub index_of : ℕ → List (List ℕ) → Option ℕ
+index_of x m = pick (stands key_of x m) (Some (rank key_of x m)) None
 
 -- the place of the first row at or above x
-unfoldable pub at_or_above : ℕ → List (List ℕ) → Found
-at_or_above x m = pick (ltb (rank key_of x m) (length m)) (At (rank key_of x m)) Missing
+unfoldable pub at_or_above : ℕ → List (List ℕ) → Option ℕ
+at_or_above x m = pick (ltb (rank key_of x m) (length m)) (Some (rank key_of x m)) None
 
-unfoldable pub first_key : List (List ℕ) → Key
-first_key [] = Nothing
-first_key (r ∷ rs) = Address (key_of r)
+unfoldable pub first_key : List (List ℕ) → Option ℕ
+first_key [] = None
+first_key (r ∷ rs) = Some (key_of r)
 
-unfoldable pub last_key : List (List ℕ) → Key
-last_key [] = Nothing
-last_key (r ∷ []) = Address (key_of r)
+unfoldable pub last_key : List (List ℕ) → Option ℕ
+last_key [] = None
+last_key (r ∷ []) = Some (key_of r)
 last_key (r ∷ s ∷ rs) = last_key (s ∷ rs)
 
 abbrev pub stands-in : List (List ℕ) → ℕ → Bool
@@ -87,22 +85,21 @@ unfoldable pub opened : List ℕ → ℕ → ℕ → ℕ → List ℕ
 opened list f e n = take (f + n) list ++ slice f e list ++ drop (e + n) list
 
 -- a row of a map's width in so many places: held it is replaced; else it is added where its places are free
-unfoldable pub answer : ℕ → ℕ → List ℕ → List (List ℕ) → Change
+unfoldable pub answer : ℕ → ℕ → List ℕ → List (List ℕ) → Result Change Refusal
 answer stride places row m =
-    pick (stands key_of (key_of row) m) Replaced (pick (leb (length m * stride + stride) places) Added Full)
+    pick (stands key_of (key_of row) m) (Ok Replaced) (pick (leb (length m * stride + stride) places) (Ok Added) (Err ListFull))
 
-abbrev pub map_after : Change → List ℕ → List (List ℕ) → List (List ℕ)
-map_after Added row m = inserted key_of row m
-map_after Replaced row m = inserted key_of row m
-map_after Full row m = m
+abbrev pub map_after : Result Change Refusal → List ℕ → List (List ℕ) → List (List ℕ)
+map_after (Ok change) row m = inserted key_of row m
+map_after (Err refusal) row m = m
 
-abbrev pub count_after : Change → ℕ → ℕ
-count_after Added count = count + 1
-count_after Replaced count = count
-count_after Full count = count
+abbrev pub count_after : Result Change Refusal → ℕ → ℕ
+count_after (Ok Added) count = count + 1
+count_after (Ok Replaced) count = count
+count_after (Err refusal) count = count
 
 -- an insert of the row answered r and left the slice after
-pub record Inserted (stride count : ℕ) (list row : List ℕ) (r : Change) (after : List ℕ) : Type 0 where
+pub record Inserted (stride count : ℕ) (list row : List ℕ) (r : Result Change Refusal) (after : List ℕ) : Type 0 where
   pub says : r ≡ answer stride (length list) row (map_in stride count list)
   pub held : Held stride (count_after r count) after
   pub leaves : map_in stride (count_after r count) after ≡ map_after r row (map_in stride count list)
@@ -111,8 +108,13 @@ pub record Inserted (stride count : ℕ) (list row : List ℕ) (r : Change) (aft
 abbrev pub fits : ℕ → ℕ → List (List ℕ) → Bool
 fits stride places m = leb (length m * stride) places
 
+-- an entry left so many rows: those that it counts, or, refused, those that were there
+abbrev pub rows_left : Result ℕ Refusal → ℕ → ℕ
+rows_left (Ok count) was = count
+rows_left (Err refusal) was = was
+
 -- the row is in the map, if the map then fits, and else all is as it was
-pub record Entering (stride count : ℕ) (list row : List ℕ) (r : Entered) (after : List ℕ) : Type 0 where
-  pub held : Held stride r.count after
-  pub says : r.full ≡ not (fits stride (length list) (inserted key_of row (map_in stride count list)))
-  pub leaves : map_in stride r.count after ≡ pick r.full (map_in stride count list) (inserted key_of row (map_in stride count list))
+pub record Entering (stride count : ℕ) (list row : List ℕ) (r : Result ℕ Refusal) (after : List ℕ) : Type 0 where
+  pub held : Held stride (rows_left r count) after
+  pub says : r ≡ pick (fits stride (length list) (inserted key_of row (map_in stride count list))) (Ok (rows_left r count)) (Err ListFull)
+  pub leaves : map_in stride (rows_left r count) after ≡ pick (is_ok r) (inserted key_of row (map_in stride count list)) (map_in stride count list)

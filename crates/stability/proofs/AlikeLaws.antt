@@ -3,7 +3,8 @@
 -- Assumes nothing.
 use Rattle.base.proofs.Prelude.{refl, ◌≡◌, true, false, Bool, List, ◌≤◌, ℕ, ◌+◌, ◌<◌, ◌-◌, length}
 use Rattle.base.specs.Choice.{pick}
-use Rattle.base.specs.Refusals.{pool_outside}
+use Rattle.base.specs.declared.refusal.Refusal.{Refusal}
+use Rattle.base.specs.declared.refusal.Refusal.TheVariants.{PoolOutside}
 use Rattle.context.specs.Context.{Given, Context, Step, on, goes, ends, refuses, ◌▸◌, pools_to}
 use Rattle.stability.proofs.PairLaws.{Paired}
 
@@ -51,8 +52,8 @@ module _ (g : Given) (c d : List ℕ) (a : ℕ) where
     both-on : (x : Context) (t : Twins) → Stays x → Alike (on (first t x)) (on (second t x))
     both_go : (x : Context) (t : Twins) → Alike (goes (first t x)) (goes (second t x))
     both_end : (end : ℕ) (x : Context) (t : Twins) → Alike (ends end (first t x)) (ends end (second t x))
-    both-refuse : (n r : ℕ) → Alike (refuses n r) (refuses n r)
-    first-lacks : {s : Step} → length c < length d → Alike (refuses pool_outside 0) s
+    both-refuse : (n : Refusal) (r : ℕ) → Alike (refuses n r) (refuses n r)
+    first-lacks : {s : Step} → length c < length d → Alike (refuses PoolOutside 0) s
 
   -- a block comes to the same on both
   abbrev pub Blind : (Context → Step) → Type 0

@@ -1,25 +1,19 @@
 -- Each block of a step on two codes. Only the test behind a return and a pool load read the code.
 -- Assumes nothing.
 use Rattle.base.proofs.Prelude.{refl, ◌≡◌, false, true, Bool, not, List, [], ◌∷◌, ◌≤◌, ℕ, ◌+◌, arith, eqb, ltb, length, get_or, set, ltb-true}
+use Rattle.std.specs.Prelude.{Option, Some, None, Result, Ok, Err}
+use Rattle.base.specs.declared.refusal.Refusal.{Refusal}
 use Rattle.analysis.specs.declared.illegal_code.IllegalCodeState.{IllegalCodeState}
 use Rattle.analysis.specs.declared.illegal_code.IllegalCodeState.TheVariants.{Start, ShiftedRegisterValue, Illegal}
-use Rattle.analysis.specs.declared.inline_table.InlineTableAnswer.{InlineTableAnswer}
-use Rattle.analysis.specs.declared.inline_table.InlineTableAnswer.TheVariants.{Next as T-Next, Refused as T-Refused}
-use Rattle.analysis.specs.declared.inline_table.FoundTable.{FoundTable}
-use Rattle.analysis.specs.declared.inline_table.FoundTable.TheVariants.{Table, Nothing as No-Table}
-use Rattle.analysis.specs.declared.jump_table.JumpTableAnswer.{JumpTableAnswer}
-use Rattle.analysis.specs.declared.jump_table.JumpTableAnswer.TheVariants.{Next as J-Next, Found as J-Found, Refused as J-Refused}
-use Rattle.analysis.specs.declared.jump_table.TableEnd.{TableEnd}
-use Rattle.analysis.specs.declared.jump_table.TableEnd.TheVariants.{At as E-At, Nothing as E-Nothing, Refused as E-Refused}
+use Rattle.analysis.specs.declared.inline_table.InlineTable.{InlineTable}
+use Rattle.analysis.specs.declared.inline_table.InlineTableState.{InlineTableState}
 use Rattle.analysis.specs.IllegalCode.{illegal_code as code_machine}
 use Rattle.analysis.specs.InlineTable.{inline_table as inline_machine, table_of}
-use Rattle.analysis.specs.JumpTable.{jump_table as jump_machine, table_end}
+use Rattle.analysis.specs.JumpTable.{Answer, jump_table as jump_machine, table_end}
 use Rattle.arm.specs.declared.Ins.{Ins}
 use Rattle.arm.specs.Ins.{is_conditional}
-use Rattle.base.specs.declared.word.Word.{Word}
-use Rattle.base.specs.declared.word.Word.TheVariants.{Found as W-Found, Missing}
 use Rattle.base.specs.Choice.{pick, both, either}
-use Rattle.base.specs.Refusals.{branch_outside as outside, pool_outside, undefined_register as undefined, beyond32_bits, list_full}
+use Rattle.base.specs.declared.refusal.Refusal.TheVariants.{BranchOutside, PoolOutside, UndefinedRegister, Beyond32Bits, ListFull}
 use Rattle.base.specs.Words.{word_from}
 use Rattle.context.specs.Blocks.{arm, thumb, other, raised_to_table, after_code, marked, is_destination, is_entry_at, is_long_branch_destination, past_gap}
 use Rattle.context.specs.Blocks.{tabled, after_jump, jump_table, illegal_code, branch_outside, mark_pool, forget_written, call_to, is_tail_call, is_in}
@@ -28,18 +22,14 @@ use Rattle.context.specs.Blocks.{branched, branch, loaded, pool_load, after_inli
 use Rattle.context.specs.Context.{Given, Context, on, ends, refuses, going_to, with_progress, with_machines, with_registers, with_maps, raising, table_to}
 use Rattle.context.specs.Context.{pool_to, defining, jump_table_to, inline_table_to, illegal_code_to, labels_to, jump_tables_to, inline_tables_to, calls_to}
 use Rattle.context.specs.Context.{enter_label, enter_jump_table, enter_inline_table, enter_call, label_row, pool_row, table_row, call_row}
-use Rattle.predicates.specs.declared.Callee.{Callee}
-use Rattle.predicates.specs.declared.Callee.TheVariants.{Nothing as No-Call, Arm, Thumb}
+use Rattle.predicates.specs.declared.Mode.{Mode}
+use Rattle.predicates.specs.declared.Mode.TheVariants.{Arm, Thumb}
 use Rattle.predicates.specs.Predicates.{is_branch, is_bx, is_entry_instruction, is_pool_load, pool_address, called_by}
 use Rattle.registers.specs.Registers.{column_forgotten, forgotten, holding, source_of}
 use Rattle.base.proofs.ChoiceLaws.{both-second}
 use Rattle.rows.specs.Rows.{inserted}
 use Rattle.rows.specs.Map.{key_of, stands-in, at_or_above, fits}
 use Rattle.rows.specs.Run.{gap_from}
-use Rattle.rows.specs.declared.Found.{Found}
-use Rattle.rows.specs.declared.Found.TheVariants.{At as F-At, Missing as F-Missing}
-use Rattle.rows.specs.declared.Gap.{Gap}
-use Rattle.rows.specs.declared.Gap.TheVariants.{At as G-At, Beyond as G-Beyond}
 use Rattle.walk.specs.Checking.{undefined_register, defined_after}
 use Rattle.stability.proofs.CodeLaws.{word-inside, inside_found, inside-longer, longer-found}
 use Rattle.stability.proofs.PairLaws.{Words, paired-length, paired-stands, paired-stands-in, paired-inserted, paired-marked}
@@ -53,14 +43,14 @@ SameEntry c d base next = next + 4 ≤ base + length c → is_entry_at d base ne
 module _ (g : Given) (c d : List ℕ) (a : ℕ) where
   -- ---- up to the return; the two skips are in TurnLaws
 
-  raised-to-table : (end : TableEnd) → Blind g c d a (raised_to_table end)
-  raised-to-table (E-At end) x t s = both-on (with_progress (table_to end (raising end x.progress)) x) t s
-  raised-to-table E-Nothing x t s = both-on x t s
-  raised-to-table E-Refused x t s = both-refuse beyond32_bits 0
+  raised-to-table : (end : Result (Option ℕ) Refusal) → Blind g c d a (raised_to_table end)
+  raised-to-table (Ok (Some end)) x t s = both-on (with_progress (table_to end (raising end x.progress)) x) t s
+  raised-to-table (Ok None) x t s = both-on x t s
+  raised-to-table (Err refusal) x t s = both-refuse refusal 0
 
   -- an insertion into a list other than the pools
-  enters : (b : Bool) → Blind g c d a (λ x. pick b (on x) (refuses list_full 0))
-  enters b x t s = pick-alike b (both-on x t s) (both-refuse list_full 0)
+  enters : (b : Bool) → Blind g c d a (λ x. pick b (on x) (refuses ListFull 0))
+  enters b x t s = pick-alike b (both-on x t s) (both-refuse ListFull 0)
 
   enter-label : (row : List ℕ) → Blind g c d a (enter_label row)
   enter-label row x t s =
@@ -87,22 +77,22 @@ module _ (g : Given) (c d : List ℕ) (a : ℕ) where
   after-code (ShiftedRegisterValue r) x t s = both-on x t s
   after-code (Illegal reason) x t s = both-refuse reason 0
 
-  past-gap : (gap : Gap) → Blind g c d a (past_gap gap)
-  past-gap (G-At after) x t s = both-on (going_to after x) t s
-  past-gap G-Beyond x t s = both-refuse beyond32_bits 0
+  past-gap : (gap : Option ℕ) → Blind g c d a (past_gap gap)
+  past-gap (Some after) x t s = both-on (going_to after x) t s
+  past-gap None x t s = both-refuse Beyond32Bits 0
 
-  table-found : (table : FoundTable) → Blind g c d a (tabled table)
-  table-found (Table table) x t s = enter-inline-table (table.address ∷ table.size ∷ []) x t s
-  table-found No-Table x t s = both-on x t s
+  table-found : (table : Option InlineTable) → Blind g c d a (tabled table)
+  table-found (Some table) x t s = enter-inline-table (table.address ∷ table.size ∷ []) x t s
+  table-found None x t s = both-on x t s
 
   module _ (i : Ins) where
-    after-jump : (answer : JumpTableAnswer) → Blind g c d a (after_jump i answer)
-    after-jump (J-Next state) x t s = raised-to-table (table_end state) (with_machines (jump_table_to state x.machines) x) t s
-    after-jump (J-Found state table) x t s =
+    after-jump : (answer : Answer) → Blind g c d a (after_jump i answer)
+    after-jump (Ok (state, None)) x t s = raised-to-table (table_end state) (with_machines (jump_table_to state x.machines) x) t s
+    after-jump (Ok (state, Some table)) x t s =
         then-alike (raised_to_table (table_end state))
         (enter-jump-table (table.address ∷ table.size ∷ []) (with_machines (jump_table_to state x.machines) x) t s)
         (raised-to-table (table_end state))
-    after-jump J-Refused x t s = both-refuse beyond32_bits 0
+    after-jump (Err refusal) x t s = both-refuse refusal 0
 
     pub jump-table : Blind g c d a (jump_table i)
     unfolding jump_table
@@ -117,7 +107,7 @@ module _ (g : Given) (c d : List ℕ) (a : ℕ) where
     pub branch-outside : Blind g c d a (branch_outside i)
     unfolding branch_outside
     branch-outside x t s =
-        pick-alike (both (is_branch i) (not (is_in 0x01FF_8000 0x0300_0000 i.target))) (both-refuse outside 0) (both-on x t s)
+        pick-alike (both (is_branch i) (not (is_in 0x01FF_8000 0x0300_0000 i.target))) (both-refuse BranchOutside 0) (both-on x t s)
 
     pub mark-pool : Blind g c d a (mark_pool i)
     unfolding mark_pool source_of
@@ -188,9 +178,9 @@ module _ (g : Given) (c d : List ℕ) (a : ℕ) where
         (both_end x.progress.address x t)
         (both-on x t s)
 
-    to-label : (size : ℕ) (found : Found) → Blind g c d a (to_label i size found)
-    to-label size (F-At k) x t s = both-on (going_to (key_of (get_or x.maps.labels k [])) x) t s
-    to-label size F-Missing x t s =
+    to-label : (size : ℕ) (found : Option ℕ) → Blind g c d a (to_label i size found)
+    to-label size (Some k) x t s = both-on (going_to (key_of (get_or x.maps.labels k [])) x) t s
+    to-label size None x t s =
         rw (paired-stands-in c d g.options.base t.paired)
         (pick-alike (ltb x.progress.address i.target)
         (both_end (x.progress.address + size) x t)
@@ -231,7 +221,7 @@ module _ (g : Given) (c d : List ℕ) (a : ℕ) where
     -- a pool load: only the value differs
     loads : (at u v : ℕ) → Words c d g.options.base at u v
         → (x : Context) (t : Twins g c d a) → Stays g c d a x
-        → Alike g c d a (loaded i at (W-Found u) (first g c d a t x)) (loaded i at (W-Found v) (second g c d a t x))
+        → Alike g c d a (loaded i at (Some u) (first g c d a t x)) (loaded i at (Some v) (second g c d a t x))
     unfolding holding
     loads at u v w x t s =
         let pools = paired-inserted c d g.options.base at u v other w t.paired in
@@ -247,19 +237,19 @@ module _ (g : Given) (c d : List ℕ) (a : ℕ) where
           other_values = set t.other_values i.rd v;
           paired = pools;
         }) s)
-        (both-refuse list_full 0))
+        (both-refuse ListFull 0))
         (λ y z r. both-on (with_progress (pool_to at y.progress) y) z (record { at = r.at; last = let last = r.last in omega arith })))
 
     -- what the first code has, a code as long has too
-    load-alike : length c ≤ length d → (at : ℕ) (y z : Word) → word_from c g.options.base at ≡ y → word_from d g.options.base at ≡ z
+    load-alike : length c ≤ length d → (at : ℕ) (y z : Option ℕ) → word_from c g.options.base at ≡ y → word_from d g.options.base at ≡ z
         → (x : Context) (t : Twins g c d a) → Stays g c d a x
         → Alike g c d a (loaded i at y (first g c d a t x)) (loaded i at z (second g c d a t x))
-    load-alike longer at (W-Found u) (W-Found v) e f x t s = loads at u v (record { first = e; second = f }) x t s
-    load-alike longer at (W-Found u) Missing e f x t s =
+    load-alike longer at (Some u) (Some v) e f x t s = loads at u v (record { first = e; second = f }) x t s
+    load-alike longer at (Some u) None e f x t s =
         let found = word-inside d g.options.base at (inside-longer c d g.options.base at longer (inside_found c g.options.base at u e)) in
         absurd (let z : ◌≡◌ {A = ℕ} 0 1 = cc in omega arith)
-    load-alike longer at Missing (W-Found v) e f x t s = first-lacks (longer-found c d g.options.base at v e f)
-    load-alike longer at Missing Missing e f x t s = both-refuse pool_outside 0
+    load-alike longer at None (Some v) e f x t s = first-lacks (longer-found c d g.options.base at v e f)
+    load-alike longer at None None e f x t s = both-refuse PoolOutside 0
 
     pub pool-load : length c ≤ length d → Blind g c d a (pool_load i)
     unfolding pool_load
@@ -269,18 +259,18 @@ module _ (g : Given) (c d : List ℕ) (a : ℕ) where
         (load-alike longer at (word_from c g.options.base at) (word_from d g.options.base at) refl refl x t s)
         (both-on x t s)
 
-    after-inline : (answer : InlineTableAnswer) → Blind g c d a (after_inline i answer)
-    after-inline (T-Next state) x t s = table-found (table_of state) (with_machines (inline_table_to state x.machines) x) t s
-    after-inline T-Refused x t s = both-refuse beyond32_bits 0
+    after-inline : (answer : Result InlineTableState Refusal) → Blind g c d a (after_inline i answer)
+    after-inline (Ok state) x t s = table-found (table_of state) (with_machines (inline_table_to state x.machines) x) t s
+    after-inline (Err refusal) x t s = both-refuse refusal 0
 
     pub inline-table : Blind g c d a (inline_table i)
     unfolding inline_table
     inline-table x t s = after-inline (inline_machine x.machines.inline_table false x.progress.address i) x t s
 
-    called-as : (word : ℕ) (callee : Callee) → Blind g c d a (called_as i word callee)
-    called-as word No-Call x t s = both-on x t s
-    called-as word Arm x t s = call-to word arm x t s
-    called-as word Thumb x t s = call-to word thumb x t s
+    called-as : (word : ℕ) (callee : Option Mode) → Blind g c d a (called_as i word callee)
+    called-as word None x t s = both-on x t s
+    called-as word (Some Arm) x t s = call-to word arm x t s
+    called-as word (Some Thumb) x t s = call-to word thumb x t s
 
     pub function-call : (word : ℕ) → Blind g c d a (function_call i word)
     unfolding function_call
@@ -292,5 +282,5 @@ module _ (g : Given) (c d : List ℕ) (a : ℕ) where
         let check = g.options.check in
         let defined = x.progress.defined_registers in
         pick-alike (ltb (undefined_register check defined i) 16)
-        (both-refuse undefined (undefined_register check defined i))
+        (both-refuse UndefinedRegister (undefined_register check defined i))
         (both-on (with_progress (defining (defined_after check defined i returns) x.progress) x) t s)

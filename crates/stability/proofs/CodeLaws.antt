@@ -2,7 +2,7 @@
 -- Assumes nothing.
 use Rattle.base.proofs.Prelude.{refl, ◌≡◌, false, true, Bool, List, ◌≤◌, ℕ, ◌+◌, ◌<◌, ◌-◌, arith, leb, length, get_or, drop, length-drop, get_or-drop}
 use Rattle.base.proofs.Prelude.{le-ltb, leb-true, leb-false}
-use Rattle.base.specs.declared.word.Word.TheVariants.{Found, Missing}
+use Rattle.std.specs.Prelude.{Some, None}
 use Rattle.base.specs.Words.{word_from, first_word, little_endian}
 use Rattle.invariants.proofs.WordLaws.{found_inside}
 use Rattle.stability.specs.Runs.{Agree}
@@ -16,7 +16,7 @@ pub record Inside (code : List ℕ) (base a : ℕ) : Type 0 where
   pub low : base ≤ a
   pub high : a + 4 ≤ base + length code
 
-first_found : (code : List ℕ) (k : ℕ) → k + 4 ≤ length code → first_word (drop k code) ≡ Found (bytes_from code k)
+first_found : (code : List ℕ) (k : ℕ) → k + 4 ≤ length code → first_word (drop k code) ≡ Some (bytes_from code k)
 unfolding first_word
 first_found code k h =
     rw (
@@ -28,12 +28,12 @@ first_found code k h =
       get_or-drop k code 3 0,
     )
 
-pub word-inside : (code : List ℕ) (base a : ℕ) → Inside code base a → word_from code base a ≡ Found (bytes_from code (a - base))
+pub word-inside : (code : List ℕ) (base a : ℕ) → Inside code base a → word_from code base a ≡ Some (bytes_from code (a - base))
 unfolding word_from
 word-inside code base a i =
     rw (le-ltb a base i.low, le-ltb (length code) (a - base) (omega arith)) (first_found code (a - base) (omega arith))
 
-pub inside_found : (code : List ℕ) (base a w : ℕ) → word_from code base a ≡ Found w → Inside code base a
+pub inside_found : (code : List ℕ) (base a w : ℕ) → word_from code base a ≡ Some w → Inside code base a
 inside_found code base a w e = let i = found_inside code base a w e in record { low = i.0; high = i.1 }
 
 -- a longer code has a word where the shorter has one
@@ -41,7 +41,7 @@ pub inside-longer : (c d : List ℕ) (base a : ℕ) → length c ≤ length d �
 inside-longer c d base a longer i = record { low = i.low; high = omega arith }
 
 -- where only the second has a word, it is longer
-pub longer-found : (c d : List ℕ) (base a w : ℕ) → word_from c base a ≡ Missing → word_from d base a ≡ Found w → length c < length d
+pub longer-found : (c d : List ℕ) (base a w : ℕ) → word_from c base a ≡ None → word_from d base a ≡ Some w → length c < length d
 longer-found c d base a w none some = step (leb (a + 4) (base + length c)) refl (inside_found d base a w some)
   where
     step : (b : Bool) → leb (a + 4) (base + length c) ≡ b → Inside d base a → length c < length d

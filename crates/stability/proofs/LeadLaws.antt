@@ -2,9 +2,9 @@
 -- Assumes nothing.
 use Rattle.base.proofs.Prelude.{◌∙◌, sym, refl, ◌≡◌, ap, true, false, Bool, inr, inl, ◌≤◌, ℕ, ◌+◌, arith, ltb}
 use Rattle.base.specs.Choice.{pick}
+use Rattle.base.specs.declared.refusal.Refusal.TheVariants.{NoEpilogue}
 use Rattle.arm.specs.Ins.{decode_of}
-use Rattle.base.specs.declared.word.Word.{Word}
-use Rattle.base.specs.declared.word.Word.TheVariants.{Found, Missing}
+use Rattle.std.specs.Prelude.{Option, Some, None}
 use Rattle.base.specs.Words.{word_from}
 use Rattle.context.specs.Blocks.{handle_ins}
 use Rattle.context.specs.Context.{Maps, Given, Context, Step, on, goes, ends, refuses}
@@ -49,7 +49,7 @@ record-last : (o : Options) (start last last_pool first_pool : ℕ) (r : Record)
 unfolding into_function
 record-last o start last last_pool first_pool r e = step (ltb o.module_end (end_address o.known_end last last_pool)) _ refl e
   where
-    step : (b : Bool) (x : Answer) → last ≡ last_of x → pick b (Refused 14 0 0) x ≡ Accepted r → last ≡ r.last_instruction_end
+    step : (b : Bool) (x : Answer) → last ≡ last_of x → pick b (Refused NoEpilogue 0 0) x ≡ Accepted r → last ≡ r.last_instruction_end
     step true x f h = absurd (no_record h tt)
     step false x f h = f ∙ ap last_of h
 
@@ -79,9 +79,9 @@ module _ (g : Given) (w : Walk) (m : Maps) where
   unfolding turn
   turn-rises = at (word_from g.code g.options.base a)
     where
-      at : (y : Word) → a ≤ (turn_at y before).walk.progress.address
-      at (Found word) = settled-rises word (step_at word) refl
-      at Missing = omega arith
+      at : (y : Option ℕ) → a ≤ (turn_at y before).walk.progress.address
+      at (Some word) = settled-rises word (step_at word) refl
+      at None = omega arith
 
   -- a return is no entry, so it leads past itself
   settled-return : (word : ℕ) → IsCode a m → (p : Previous) → is_return a (decode_of word a) p ≡ true
@@ -98,7 +98,7 @@ module _ (g : Given) (w : Walk) (m : Maps) where
           absurd (let z : ◌≡◌ {A = ℕ} 0 1 = cc in omega arith)
   settled-return word code p returns (refuses n r) e k = absurd k
 
-  pub turn-return : (word : ℕ) → word_from g.code g.options.base w.progress.address ≡ Found word → IsCode w.progress.address m
+  pub turn-return : (word : ℕ) → word_from g.code g.options.base w.progress.address ≡ Some word → IsCode w.progress.address m
       → (p : Previous) → is_return w.progress.address (decode_of word w.progress.address) p ≡ true
       → Unrefused (turn g w m).walk.result → w.progress.address + arm_size ≤ (turn g w m).walk.progress.address
   unfolding turn
@@ -119,11 +119,11 @@ module _ (g : Given) (w : Walk) (m : Maps) where
   unfolding turn
   turn-ends r e = at (word_from g.code g.options.base a) e
     where
-      at : (y : Word) → (turn_at y before).walk.result ≡ Accepted r → (turn_at y before).walk.progress.address ≡ r.last_instruction_end
-      at (Found word) h = settled-ends r (step_at word) h
-      at Missing h = absurd (no_record h tt)
+      at : (y : Option ℕ) → (turn_at y before).walk.result ≡ Accepted r → (turn_at y before).walk.progress.address ≡ r.last_instruction_end
+      at (Some word) h = settled-ends r (step_at word) h
+      at None h = absurd (no_record h tt)
 
   -- a turn that is not refused has found a word
-  pub turn-found : Unrefused (turn g w m).walk.result → (word_from g.code g.options.base w.progress.address ≡ Missing → ⊥)
+  pub turn-found : Unrefused (turn g w m).walk.result → (word_from g.code g.options.base w.progress.address ≡ None → ⊥)
   unfolding turn
   turn-found kept e = rw e at kept

@@ -2,7 +2,7 @@
 -- Assumes nothing.
 use Rattle.base.proofs.Prelude.{refl, ◌≡◌, ap, true, false, Bool, false≢true, List, [], ◌∷◌, map, ℕ, suc, eqb, ltb, length, get_or, eqb-true}
 use mathlib.Core.Path.{fun_ext}
-use Rattle.base.specs.declared.word.Word.TheVariants.{Found}
+use Rattle.std.specs.Prelude.{Some}
 use Rattle.base.specs.Choice.{pick}
 use Rattle.base.specs.Words.{word_from}
 use Rattle.context.specs.Blocks.{marked, call}
@@ -13,8 +13,8 @@ use Rattle.rows.specs.Map.{key_of, stands-in, Wide, first_key, last_key}
 module _ (c d : List ℕ) (base : ℕ) where
   -- the word at an address, in each code
   pub record Words (a u v : ℕ) : Type 0 where
-    pub first : word_from c base a ≡ Found u
-    pub second : word_from d base a ≡ Found v
+    pub first : word_from c base a ≡ Some u
+    pub second : word_from d base a ≡ Some v
 
   pub data Paired : List (List ℕ) → List (List ℕ) → Type 0 where
     none : Paired [] []

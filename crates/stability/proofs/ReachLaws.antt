@@ -1,12 +1,14 @@
 -- A run that answers with a record comes to it: every check on the way has passed, and no turn was refused.
 -- Assumes nothing.
 use Rattle.base.proofs.Prelude.{refl, ◌≡◌, true, false, Bool, List, [], ◌∷◌, ◌≤◌, ℕ, arith, eqb, length, eq-eqb, eqb-true}
+use Rattle.std.specs.Prelude.{Result, Ok, Err}
+use Rattle.base.specs.declared.refusal.Refusal.{Refusal}
 use Rattle.base.specs.Choice.{pick}
-use Rattle.base.specs.Refusals.{not_done}
+use Rattle.base.specs.declared.refusal.Refusal.TheVariants.{NotDone}
 use Rattle.context.specs.Lists.{Lists, maps_in, written, zeroed, given_by}
 use Rattle.context.specs.Turn.{no_maps, counts_of}
-use Rattle.stepper.specs.Stepper.{After, is_going, refused, begin, turned, unchanged, number_at, step, finish}
-use Rattle.validity.specs.Validity.{begin_number}
+use Rattle.stepper.specs.Stepper.{After, is_going, refused, begin, begin_where, turned, unchanged, check_at, step, step_where, finish}
+use Rattle.validity.specs.Validity.{begin_check}
 use Rattle.walk.specs.declared.Answer.{Answer}
 use Rattle.walk.specs.declared.Answer.TheVariants.{Going, Accepted, Refused}
 use Rattle.walk.specs.declared.Counts.{Counts}
@@ -53,35 +55,34 @@ module _ (o : Options) (starts c : List ℕ) (r : Record) where
   unfolding finish
   finish-honest x h = record { says = go x.walk.result; ends = h.ends }
     where
-      go : (a : Answer) → pick (is_going a) (refused not_done) a ≡ Accepted r → a ≡ Accepted r
+      go : (a : Answer) → pick (is_going a) (refused NotDone) a ≡ Accepted r → a ≡ Accepted r
       go Going e = absurd (no_record e tt)
       go (Accepted q) e = e
       go (Refused n a q) e = e
 
   -- a step, seen from the walk that it leaves
   module _ (w : Walk) (l : Lists) where
-    abbrev step_by : Bool → Bool → After
-    step_by going passes =
-        pick going (pick passes (turned l (turn_of o c starts w l)) (unchanged w l (refused (number_at o c starts w l)))) (unchanged w l w.result)
+    abbrev step_by : Bool → Result (Unit {0}) Refusal → After
+    step_by going check = pick going (step_where o c starts w l check) (unchanged w l w.result)
 
     step-honest : (w.result ≡ Accepted r → w.progress.address ≡ r.last_instruction_end) → Honest (step o c starts w l)
     unfolding step
-    step-honest h = go (is_going w.result) (eqb (number_at o c starts w l) 0)
+    step-honest h = go (is_going w.result) (check_at o c starts w l)
       where
-        go : (p q : Bool) → Honest (step_by p q)
-        go true true = record { says = λ k. k; ends = turn-ends (given_by o c starts l) w (maps_in w.counts l) r }
-        go true false = record { says = λ k. absurd (no_record k tt); ends = h }
+        go : (p : Bool) (q : Result (Unit {0}) Refusal) → Honest (step_by p q)
+        go true (Ok t) = record { says = λ k. k; ends = turn-ends (given_by o c starts l) w (maps_in w.counts l) r }
+        go true (Err refusal) = record { says = λ k. absurd (no_record k tt); ends = h }
         go false q = record { says = λ k. k; ends = h }
 
     -- one that is refused by 1 to 4 changes nothing, so each later one is refused too
     step-reaches : Reaches (step o c starts w l).walk (step o c starts w l).lists → Reaches w l
     unfolding step
-    step-reaches = go (is_going w.result) (eqb (number_at o c starts w l) 0) refl refl
+    step-reaches = go (is_going w.result) (check_at o c starts w l) refl refl
       where
-        go : (p q : Bool) → is_going w.result ≡ p → eqb (number_at o c starts w l) 0 ≡ q → Reaches (step_by p q).walk (step_by p q).lists
-            → Reaches w l
-        go true true e f next = goes e (number_passed o c starts w l (eqb-true _ _ f)) next
-        go true false e f next = next
+        go : (p : Bool) (q : Result (Unit {0}) Refusal) → is_going w.result ≡ p → check_at o c starts w l ≡ q
+            → Reaches (step_by p q).walk (step_by p q).lists → Reaches w l
+        go true (Ok t) e f next = goes e (number_passed o c starts w l f) next
+        go true (Err refusal) e f next = next
         go false q e f next = next
 
   -- a run that answers with the record comes to it
@@ -97,42 +98,35 @@ module _ (o : Options) (starts c : List ℕ) (r : Record) where
   -- ---- from a begin
 
   module _ (start : ℕ) (n : Counts) (l : Lists) where
-    abbrev number : ℕ
-    number = begin_number o start (length c) starts
-
-    abbrev begin_by : Bool → After
-    begin_by passes =
-        pick passes
-        (record { walk = begun start (counts_of no_maps); lists = zeroed l; answer = Going })
-        (record { walk = begun start n; lists = l; answer = refused number })
+    abbrev check : Result (Unit {0}) Refusal
+    check = begin_check o start (length c) starts
 
     begin-honest : Honest (begin o start c starts n l)
     unfolding begin begun
-    begin-honest = go (eqb number 0)
+    begin-honest = go check
       where
-        go : (b : Bool) → Honest (begin_by b)
-        go true = record { says = λ e. absurd (no_record e tt); ends = λ e. absurd (no_record e tt) }
-        go false = record { says = λ e. absurd (no_record e tt); ends = λ e. absurd (no_record e tt) }
+        go : (b : Result (Unit {0}) Refusal) → Honest (begin_where start n l b)
+        go (Ok t) = record { says = λ e. absurd (no_record e tt); ends = λ e. absurd (no_record e tt) }
+        go (Err refusal) = record { says = λ e. absurd (no_record e tt); ends = λ e. absurd (no_record e tt) }
 
     -- a begin that is refused comes to no record: each step is refused too
-    stuck : eqb number 0 ≡ false → Reaches (begun start n) l → ⊥
+    stuck : {refusal : Refusal} → check ≡ Err refusal → Reaches (begun start n) l → ⊥
     unfolding begun
     stuck e (ended f at) = no_record f tt
     stuck e (goes g p next) =
-        let passes : number ≡ 0 = begins-number o start c starts (passed-begins o c starts (begun start n) l p) in
-        let same : eqb number 0 ≡ true = eq-eqb _ _ passes in
+        let passes : check ≡ Ok tt = begins-number o start c starts (passed-begins o c starts (begun start n) l p) in
         let z : ◌≡◌ {A = ℕ} 0 1 = cc in
         omega arith
 
     begin-reaches : Reaches (begin o start c starts n l).walk (begin o start c starts n l).lists
         → Begins o start c starts × Reaches (begun start (counts_of no_maps)) (zeroed l)
     unfolding begin
-    begin-reaches reach = go (eqb number 0) refl reach
+    begin-reaches reach = go check refl reach
       where
-        go : (b : Bool) → eqb number 0 ≡ b → Reaches (begin_by b).walk (begin_by b).lists
+        go : (b : Result (Unit {0}) Refusal) → check ≡ b → Reaches (begin_where start n l b).walk (begin_where start n l b).lists
             → Begins o start c starts × Reaches (begun start (counts_of no_maps)) (zeroed l)
-        go true e k = (number-begins o start c starts (eqb-true _ _ e), k)
-        go false e k = absurd (stuck e k)
+        go (Ok t) e k = (number-begins o start c starts e, k)
+        go (Err refusal) e k = absurd (stuck e k)
 
     pub run-reaches : (ks : List Action) → Answers r (run_from o c starts (begin o start c starts n l) ks)
         → Begins o start c starts × Reaches (begun start (counts_of no_maps)) (zeroed l)

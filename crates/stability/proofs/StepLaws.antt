@@ -2,8 +2,7 @@
 -- Assumes nothing.
 use Rattle.base.proofs.Prelude.{refl, ◌≡◌, ap, true, List, [], ◌∷◌, ◌≤◌, ℕ, ◌+◌, ◌-◌, arith, leb, length, leb-true}
 use Rattle.arm.specs.Ins.{decode_of}
-use Rattle.base.specs.declared.word.Word.{Word}
-use Rattle.base.specs.declared.word.Word.TheVariants.{Found, Missing}
+use Rattle.std.specs.Prelude.{Option, Some, None}
 use Rattle.base.specs.Words.{word_from}
 use Rattle.context.specs.Blocks.{is_entry_word, is_entry_at}
 use Rattle.context.specs.Context.{pool_row}
@@ -44,7 +43,7 @@ module _ (o : Options) (starts c d : List ℕ) (longer : length c ≤ length d) 
   a = w.progress.address
 
   alike : word_from d o.base a ≡ word_from c o.base a
-      → ((word : ℕ) → word_from c o.base a ≡ Found word → SameBehind c d o.base a arm_size (decode_of word a) (maps_in w.counts l))
+      → ((word : ℕ) → word_from c o.base a ≡ Some word → SameBehind c d o.base a arm_size (decode_of word a) (maps_in w.counts l))
       → AlikeTurn c d o.base (turn_of o c starts w l) (turn_of o d starts (revalued values w) (relisted pools l))
   alike here behind =
       let last = rw (← passed.last) at (last-whole o.base (length c) (maps_in w.counts l).pools passed.whole) in
@@ -68,7 +67,7 @@ module _ (o : Options) (starts c d : List ℕ) (longer : length c ≤ length d) 
       → SameTurn c d o.base (turn_of o c starts w l) (turn_of o d starts (revalued values w) (relisted pools l))
   unfolding is_entry_at
   turn-long long here next =
-      long_same long (alike here (λ word found code p returns inside. ap (λ (y : Word). is_entry_word y (a + arm_size)) next))
+      long_same long (alike here (λ word found code p returns inside. ap (λ (y : Option ℕ). is_entry_word y (a + arm_size)) next))
 
   -- on a longer code, one that is not refused, where the codes agree up to four bytes past where it leads
   module _ (from to : ℕ) (agree : Agree c d o.base from (to + 4)) (above : from ≤ w.progress.address)
@@ -76,19 +75,19 @@ module _ (o : Options) (starts c d : List ℕ) (longer : length c ≤ length d) 
     here : word_from d o.base a ≡ word_from c o.base a
     here = step (word_from c o.base a) refl
       where
-        step : (y : Word) → word_from c o.base a ≡ y → word_from d o.base a ≡ word_from c o.base a
-        step (Found word) e =
+        step : (y : Option ℕ) → word_from c o.base a ≡ y → word_from d o.base a ≡ word_from c o.base a
+        step (Some word) e =
             let up = turn-rises (given_by o c starts l) w (maps_in w.counts l) in
             same_word c d o.base longer from (to + 4) agree a (inside_found c o.base a word e) above (omega arith)
-        step Missing e = absurd (turn-found (given_by o c starts l) w (maps_in w.counts l) kept e)
+        step None e = absurd (turn-found (given_by o c starts l) w (maps_in w.counts l) kept e)
 
     -- a return leads past itself
-    behind : (word : ℕ) → word_from c o.base a ≡ Found word → SameBehind c d o.base a arm_size (decode_of word a) (maps_in w.counts l)
+    behind : (word : ℕ) → word_from c o.base a ≡ Some word → SameBehind c d o.base a arm_size (decode_of word a) (maps_in w.counts l)
     unfolding is_entry_at
     behind word found code p returns inside =
         let past = turn-return (given_by o c starts l) w (maps_in w.counts l) word found code p returns kept in
         let start = passed.above in
-        ap (λ (y : Word). is_entry_word y (a + arm_size))
+        ap (λ (y : Option ℕ). is_entry_word y (a + arm_size))
         (same_word c d o.base longer from (to + 4) agree (a + arm_size) (record { low = omega arith; high = inside }) (omega arith) (omega arith))
 
     pub turn-same : SameTurn c d o.base (turn_of o c starts w l) (turn_of o d starts (revalued values w) (relisted pools l))

@@ -3,10 +3,9 @@
 use Rattle.base.proofs.Prelude.{refl, ◌≡◌, true, false, Bool, List, [], some, none, Option, ◌≤◌, ℕ, ◌+◌, ◌<◌, ◌-◌, arith, ltb, length}
 use Rattle.arm.specs.declared.Ins.{Ins}
 use Rattle.arm.specs.Ins.{decode_of}
-use Rattle.base.specs.declared.word.Word.{Word}
-use Rattle.base.specs.declared.word.Word.TheVariants.{Found, Missing}
+use Rattle.std.specs.Prelude.{Option as Optional, Some, None}
 use Rattle.base.specs.Choice.{pick}
-use Rattle.base.specs.Refusals.{pool_outside, beyond32_bits, no_epilogue}
+use Rattle.base.specs.declared.refusal.Refusal.TheVariants.{PoolOutside, Beyond32Bits, NoEpilogue}
 use Rattle.base.specs.Words.{word_from}
 use Rattle.context.specs.Blocks.{table_end_at, inline_table_at, skips_to, skip_pool, skip_inline_table, jump_table, illegal_code, branch_outside, mark_pool}
 use Rattle.context.specs.Blocks.{forget_written, in_conditional_block, entry_after_branch, branch, pool_load, inline_table, function_call, check_defined}
@@ -83,10 +82,10 @@ module _ (g : Given) (c d : List ℕ) (longer : length c ≤ length d) (a : ℕ)
       where
         skips : (b : Bool) (end : ℕ)
             → Alike g c d a
-            (as_code (pick b (goes (going_to end (first g c d a t x))) (refuses beyond32_bits 0)))
-            (as_code (pick b (goes (going_to end (second g c d a t x))) (refuses beyond32_bits 0)))
+            (as_code (pick b (goes (going_to end (first g c d a t x))) (refuses Beyond32Bits 0)))
+            (as_code (pick b (goes (going_to end (second g c d a t x))) (refuses Beyond32Bits 0)))
         skips true end = both_go (going_to end x) t
-        skips false end = both-refuse beyond32_bits 0
+        skips false end = both-refuse Beyond32Bits 0
 
         step : (table : Option (List ℕ)) → inline_table_at x.progress.address x.maps.inline_tables ≡ table
             → Alike g c d a (as_code (skips_to table (first g c d a t x))) (as_code (skips_to table (second g c d a t x)))
@@ -141,7 +140,7 @@ pub record SameTurn (c d : List ℕ) (base : ℕ) (s t : Turned) : Type 0 where
 -- or the first code lacks a pool's word that the second has
 pub data AlikeTurn (c d : List ℕ) (base : ℕ) (s t : Turned) : Type 0 where
   same : SameTurn c d base s t → AlikeTurn c d base s t
-  lacks : (a : ℕ) → length c < length d → s.walk.result ≡ Refused pool_outside a 0 → AlikeTurn c d base s t
+  lacks : (a : ℕ) → length c < length d → s.walk.result ≡ Refused PoolOutside a 0 → AlikeTurn c d base s t
 
 module _ (g : Given) (c d : List ℕ) (a : ℕ) where
   walk-alike : (result : Answer) (x : Context) (t : Twins g c d a)
@@ -178,7 +177,7 @@ module _ (g : Given) (c d : List ℕ) (longer : length c ≤ length d) (w : Walk
     (paired : Paired c d g.options.base m.pools pools)
     (last : w.progress.last_pool_address ≤ g.options.base + length c - 4)
     (here : word_from d g.options.base w.progress.address ≡ word_from c g.options.base w.progress.address)
-    (behind : (word : ℕ) → word_from c g.options.base w.progress.address ≡ Found word
+    (behind : (word : ℕ) → word_from c g.options.base w.progress.address ≡ Some word
     → SameBehind c d g.options.base w.progress.address arm_size (decode_of word w.progress.address) m) where
   abbrev at : ℕ
   at = w.progress.address
@@ -190,14 +189,14 @@ module _ (g : Given) (c d : List ℕ) (longer : length c ≤ length d) (w : Walk
   unfolding turn
   turn-alike = rw here (step (word_from c g.options.base at) refl)
     where
-      step : (y : Word) → word_from c g.options.base at ≡ y
+      step : (y : Optional ℕ) → word_from c g.options.base at ≡ y
           → AlikeTurn c d g.options.base
           (turn_at y (context_at (code_to c g) w m))
           (turn_at y (context_at (code_to d g) (revalued values w) (pools_to pools m)))
-      step (Found word) e =
+      step (Some word) e =
           settled-alike g c d at (context_at g w m) twins
           (handle-ins g c d longer at (decode_of word at) word arm_size (context_at g w m) twins (record { at = refl; last = last }) (behind word e))
-      step Missing e = closed-alike g c d at (Refused no_epilogue 0 0) (context_at g w m) twins
+      step None e = closed-alike g c d at (Refused NoEpilogue 0 0) (context_at g w m) twins
 
 -- going on, or a record
 abbrev pub Unrefused : Answer → Type 0

@@ -2,7 +2,7 @@
 -- step, and the lists as the last call left them. And what the theorem about them compares.
 -- Assumes nothing.
 use Rattle.std.specs.Prelude.{◌≡◌, List, [], ◌∷◌, ℕ, ◌+◌, ◌*◌, ◌-◌, ◌≤◌, ◌<◌, length, get_or}
-use Rattle.base.specs.declared.word.Word.TheVariants.{Found}
+use Rattle.std.specs.Prelude.{Some}
 use Rattle.base.specs.Words.{word_from}
 use Rattle.context.specs.Context.{pool_row}
 use Rattle.context.specs.Lists.{Lists}
@@ -67,7 +67,7 @@ pub record SamePools (n : ℕ) (p q : List ℕ) : Type 0 where
 -- the value of each of the first n pools is the word at its address in the code, and the places after them hold zero
 pub record Valued (code : List ℕ) (base n : ℕ) (pools : List ℕ) : Type 0 where
   pub fits : n * pool_row ≤ length pools
-  pub words : (i : ℕ) → i < n → word_from code base (address_at pools i) ≡ Found (value_at pools i)
+  pub words : (i : ℕ) → i < n → word_from code base (address_at pools i) ≡ Some (value_at pools i)
   pub zeros : (i : ℕ) → n * pool_row ≤ i → get_or pools i 0 ≡ 0
 
 -- equal answers, counts and entries, but that a pool's value is the word in that run's own code

@@ -1,12 +1,13 @@
 -- What a call leaves: after a turn of the loop, and where it was refused.
 -- Assumes nothing.
 use Rattle.base.proofs.Prelude.{◌≡◌, ap, List, ◌≤◌, ℕ, ◌+◌, length}
+use Rattle.std.specs.Prelude.{Ok}
 use Rattle.context.specs.Lists.{Lists, AllHeld}
 use Rattle.context.specs.Turn.{Turned}
 use Rattle.rows.specs.Map.{Held}
 use Rattle.turn.specs.Turning.{Turns}
 use Rattle.turn.proofs.Laws.{turns-written}
-use Rattle.validity.specs.Validity.{high, step_number}
+use Rattle.validity.specs.Validity.{high, step_check}
 use Rattle.validity.proofs.Laws.{number_passed, window-fits}
 use Rattle.walk.specs.declared.Options.{Options}
 use Rattle.walk.specs.declared.Walk.{Walk}
@@ -17,7 +18,7 @@ pub called-turned : {r : Walk} {before after : Lists} {t : Turned} → Turns r b
 called-turned h = record { walks = h.walks; answers = ap (λ (w : Walk). w.result) h.walks; holds = turns-written h }
 
 -- a turn is made only where the checks passed
-pub turn-may : (o : Options) (code starts : List ℕ) (w : Walk) (l : Lists) → step_number o (length code) starts w l ≡ 0
+pub turn-may : (o : Options) (code starts : List ℕ) (w : Walk) (l : Lists) → step_check o (length code) starts w l ≡ Ok tt
     → (o.base + length code ≤ high) × Held 1 (length starts) starts × AllHeld w.counts l
 turn-may o code starts w l e =
     let p = number_passed o code starts w l e in

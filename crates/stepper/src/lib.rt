@@ -5,7 +5,7 @@ ghost use Rattle.std.specs.Prelude.{◌≡◌};
 ghost use Rattle.context.specs.Lists.{lists, zeroed};
 ghost use Rattle.stepper.specs.Stepper.{Called, is_going, refused, begin, step, finish};
 
-use base::refusal::NOT_DONE;
+use base::refusal::Refusal;
 use outcome::no_counts;
 use rows::order::zero;
 use walk::into_function::new;
@@ -21,22 +21,14 @@ pub struct Answered {
 pub fn is_going(answer: Answer) -> bool
     ensures { result ≡ is_going answer }
 {
-    match answer {
-        Answer::Going => true,
-        Answer::Accepted(_) => false,
-        Answer::Refused {
-            number: _,
-            address: _,
-            register: _,
-        } => false,
-    }
+    matches!(answer, Answer::Going)
 }
 
-pub fn refused(number: u8) -> Answer
-    ensures { result ≡ refused number }
+pub fn refused(refusal: Refusal) -> Answer
+    ensures { result ≡ refused refusal }
 {
     Answer::Refused {
-        number,
+        refusal,
         address: 0,
         register: 0,
     }
@@ -74,11 +66,10 @@ pub fn begin(
 ) -> Answered
     ensures { Called result (lists labels.new pools.new jump_tables.new inline_tables.new calls.new) (begin o start code.now starts.now counts (lists labels.old pools.old jump_tables.old inline_tables.old calls.old)) }
 {
-    let number = validity::begin(o, start, code.len(), starts);
-    if number != 0 {
+    if let Err(refusal) = validity::begin(o, start, code.len(), starts) {
         return Answered {
             walk: new(start, counts),
-            answer: refused(number),
+            answer: refused(refusal),
         };
     }
     zero_all(labels, pools, jump_tables, inline_tables, calls);
@@ -102,14 +93,13 @@ pub fn step(
 ) -> Answered
     ensures { Called result (lists labels.new pools.new jump_tables.new inline_tables.new calls.new) (step o code.now starts.now w (lists labels.old pools.old jump_tables.old inline_tables.old calls.old)) }
 {
-    let result = w.result;
-    if !is_going(result) {
+    if !is_going(w.result) {
         return Answered {
             walk: w,
-            answer: result,
+            answer: w.result,
         };
     }
-    let number = validity::step(
+    let passed = validity::step(
         o,
         code.len(),
         starts,
@@ -120,10 +110,10 @@ pub fn step(
         inline_tables,
         calls,
     );
-    if number != 0 {
+    if let Err(refusal) = passed {
         return Answered {
             walk: w,
-            answer: refused(number),
+            answer: refused(refusal),
         };
     }
     let after = turn::turn(
@@ -137,20 +127,20 @@ pub fn step(
         inline_tables,
         calls,
     );
-    let answer = after.result;
     Answered {
         walk: after,
-        answer,
+        answer: after.result,
     }
 }
 
 // The walk's result, once it has one.
+#[tactic(auto, unfolding(crate::specs::Stepper::finish))]
 pub fn finish(w: Walk) -> Answer
     ensures { result ≡ finish w }
 {
-    let result = w.result;
-    if is_going(result) {
-        return refused(NOT_DONE);
+    if is_going(w.result) {
+        refused(Refusal::NotDone)
+    } else {
+        w.result
     }
-    result
 }

@@ -1,2 +1,2 @@
--- What the contracts of this crate cite: a search among the inline tables, data that is skipped, a refusal by its number.
+-- What the contracts of this crate cite: a search among the inline tables, data that is skipped, a step that may be refused.
 pub mod Tables

@@ -1,36 +1,35 @@
 -- What a search among the inline tables promises, data that the walk skips, and a step that may be refused.
 -- Assumes nothing.
-use Rattle.std.specs.Prelude.{◌≡◌, List, [], ℕ, ◌<◌, eqb, ltb, length, get_or}
+use Rattle.std.specs.Prelude.{◌≡◌, List, [], ℕ, ◌<◌, ltb, length, get_or, Option, Some, None, Result, Ok, Err}
 use Rattle.std.proofs.Math.Option.{none, some}
 use Rattle.base.specs.Choice.{pick}
-use Rattle.base.specs.Refusals.{beyond32_bits}
+use Rattle.base.specs.declared.refusal.Refusal.{Refusal}
+use Rattle.base.specs.declared.refusal.Refusal.TheVariants.{Beyond32Bits}
 use Rattle.context.specs.Blocks.{inline_table_at}
 use Rattle.context.specs.Context.{Context, Step, on, goes, refuses, going_to}
 use Rattle.context.specs.declared.Then.{Then}
 use Rattle.context.specs.declared.Then.TheVariants.{Refuses}
-use Rattle.rows.specs.declared.Found.{Found}
-use Rattle.rows.specs.declared.Found.TheVariants.{At, Missing}
-use Rattle.tables.specs.declared.Data.{Data}
-use Rattle.tables.specs.declared.Data.TheVariants.{Nothing, EndsAt, Beyond}
 
 -- r is the place of the first table that holds the address a
-abbrev pub Finds : ℕ → List (List ℕ) → Found → Type 0
-Finds a m (At k) = (k < length m) × (inline_table_at a m ≡ some (get_or m k []))
-Finds a m Missing = inline_table_at a m ≡ none
+abbrev pub Finds : ℕ → List (List ℕ) → Option ℕ → Type 0
+Finds a m (Some k) = (k < length m) × (inline_table_at a m ≡ some (get_or m k []))
+Finds a m None = inline_table_at a m ≡ none
 
 -- a table's end, where it is one of 32 bits
-abbrev pub table_data : ℕ → Data
-table_data end = pick (ltb end 0x1_0000_0000) (EndsAt end) Beyond
+abbrev pub table_data : ℕ → Result (Option ℕ) Refusal
+table_data end = pick (ltb end 0x1_0000_0000) (Ok (Some end)) (Err Beyond32Bits)
 
 -- the walk goes on behind the data
-abbrev pub skipped : Data → Context → Step
-skipped Nothing c = on c
-skipped (EndsAt a) c = goes (going_to a c)
-skipped Beyond c = refuses beyond32_bits 0
+abbrev pub skipped : Result (Option ℕ) Refusal → Context → Step
+skipped (Ok None) c = on c
+skipped (Ok (Some a)) c = goes (going_to a c)
+skipped (Err r) c = refuses r 0
 
--- the refusal of a number, if it is not 0, else the other: as the code hands it back, and as a step
-abbrev pub refused_or : ℕ → Then → Then
-refused_or n t = pick (eqb n 0) t (Refuses n 0)
+-- the refusal, if there is one, else the other: as the code hands it back, and as a step
+abbrev pub refused_or : Option Refusal → Then → Then
+refused_or None t = t
+refused_or (Some r) t = Refuses r 0
 
-abbrev pub unless_refused : ℕ → Step → Step
-unless_refused n step = pick (eqb n 0) step (refuses n 0)
+abbrev pub unless_refused : Option Refusal → Step → Step
+unless_refused None step = step
+unless_refused (Some r) step = refuses r 0

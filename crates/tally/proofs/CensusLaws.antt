@@ -11,7 +11,6 @@ use Rattle.encodings.specs.Encodings.{encodings, undefineds}
 use Rattle.modes.specs.Operands.{shift_of, zero_shift_of, zero_amount_of}
 use Rattle.arm.specs.Ins.{is_conditional}
 use Rattle.arm.specs.Naming.{shift_name, class_of}
-use Rattle.encodings.proofs.Reduce.{unconditional-yes, unconditional-no}
 use Rattle.encodings.proofs.Sweep.{and, and_left, and_right}
 use Rattle.tally.specs.Census.{Entry, entry, census, entry_of, Counted, total}
 use Rattle.tally.specs.Counting.{one, how_many, unconditional_words, conditional_words}
@@ -44,14 +43,8 @@ word-class c op t o l = class-fields (c * 268435456 + (op * 1048576 + t)) ∙ rw
     y_of c op t = omega arith
 
 nv-of : (c v : ℕ) → v < 268435456 → unconditional (c * 268435456 + v) ≡ nv_of c
-nv-of c v l = go (eqb c 15) refl
-  where
-    high : (c * 268435456 + v) / 268435456 ≡ c
-    high = omega arith
-
-    go : (b : Bool) → eqb c 15 ≡ b → unconditional (c * 268435456 + v) ≡ elim b as (λ _. ℕ) [ true ↦ 1 | false ↦ 0 ]
-    go true e = unconditional-yes (c * 268435456 + v) (high ∙ eqb→eq c 15 (subst (λ (b : Bool). T b) (sym e) tt))
-    go false e = unconditional-no (c * 268435456 + v) (λ f. subst (λ (b : Bool). T b) (sym (eq-eqb c 15 (sym high ∙ f)) ∙ e) tt)
+unfolding unconditional
+nv-of c v l = let high : (c * 268435456 + v) / 268435456 ≡ c = omega arith in ap nv_of high
 
 -- the words of class k under condition c
 under : (c : ℕ) (k : Class) → how_many (λ (v : ℕ). is (class_of (c * 268435456 + v)) k) 268435456 ≡ sum 256 (λ (op : ℕ). with_op (nv_of c) op k)

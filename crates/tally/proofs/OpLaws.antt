@@ -1,11 +1,11 @@
 -- How many words of one class there are with given bits 27 to 20, which is op, under condition 1111 (nv = 1) or another (nv = 0).
-use Rattle.base.proofs.Prelude.{◌∙◌, sym, refl, ◌≡◌, ap, subst, false, true, Bool, not, ℕ, ◌+◌, ◌<◌, ◌*◌, ◌/◌, ◌%◌, arith, eqb, T, eqb→eq, eq-eqb}
+use Rattle.base.proofs.Prelude.{◌∙◌, sym, refl, ◌≡◌, ap, subst, false, true, Bool, not, ℕ, ◌+◌, ◌<◌, ◌*◌, ◌/◌, ◌%◌, arith, eqb, T, eq-eqb}
 use Rattle.base.proofs.Prelude.{ne_eqb}
 use Rattle.classes.specs.declared.Class.{Class}
 use Rattle.classes.specs.declared.Class.TheVariants.{Mov, Stm, Ldm, Str, Ldr, Push, Pop}
 use Rattle.classes.specs.Class.{class_no, is}
-use Rattle.classes.proofs.Numbers.{same_number}
 use Rattle.encodings.specs.Deciding.{encoding_at}
+use Rattle.std.proofs.lemmas.Bool.Decides.{nat_tests}
 use Rattle.tally.specs.Counting.{one, how_many}
 use Rattle.tally.proofs.CountLaws.{sum, same_tests, same-terms, in_two, by_parts, low_part, high_part, sum-scaled, all_pass}
 use Rattle.tally.proofs.FieldLaws.{shifted, chosen, name_at, class_at}
@@ -37,69 +37,8 @@ unlike : (x y : ℕ) → T (not (eqb x y)) → x ≡ y → ⊥
 unlike x y t e = subst (λ (b : Bool). T (not b)) (eq-eqb x y e) t
 
 kept : (k : Class) (op rn y : ℕ) → rn < 16 → T (keeps k op) → name_at k op rn y ≡ k
-unfolding chosen shifted
-kept k op rn y r = go (is k Mov) refl (is k Stm) refl (is k Ldm) refl (is k Str) refl (is k Ldr) refl
-  where
-    m : Class
-    m = shifted (eqb (op / 32 % 2) 1) (eqb (y / 16 % 2) 1) (y / 32 % 4) (y / 128)
-
-    known : (j : Class) → is k j ≡ true → j ≡ k
-    known j e = sym (same_number k j (subst (λ (b : Bool). T b) (sym e) tt))
-
-    test : Bool → Bool → Bool → Bool → Bool → Bool
-    test a b c d f =
-        elim a [
-          | true ↦ eqb (op / 32 % 2) 1
-          | false ↦ elim b [
-            | true ↦ not (eqb (op % 32) 18)
-            | false ↦ elim c [
-              | true ↦ not (eqb (op % 32) 11)
-              | false ↦ elim d [
-                | true ↦ not (eqb op 82)
-                | false ↦ elim f [ true ↦ not (eqb op 73) | false ↦ true ]
-              ]
-            ]
-          ]
-        ]
-
-    named : Bool → Bool → Bool → Bool → Bool → Class
-    named a b c d f =
-        elim a [
-          | true ↦ m
-          | false ↦ elim b [
-            | true ↦ elim (eqb (op % 32 * 16 + rn) 301) [ true ↦ Push | false ↦ Stm ]
-            | false ↦ elim c [
-              | true ↦ elim (eqb (op % 32 * 16 + rn) 189) [ true ↦ Pop | false ↦ Ldm ]
-              | false ↦ elim d [
-                | true ↦ elim (eqb (op * 16 + rn) 1325) [ true ↦ elim (eqb y 4) [ true ↦ Push | false ↦ Str ] | false ↦ Str ]
-                | false ↦ elim f [
-                  | true ↦ elim (eqb (op * 16 + rn) 1181) [ true ↦ elim (eqb y 4) [ true ↦ Pop | false ↦ Ldr ] | false ↦ Ldr ]
-                  | false ↦ k
-                ]
-              ]
-            ]
-          ]
-        ]
-
-    immediate : (b : Bool) → T b → (s : Bool) → (i j : ℕ) → shifted b s i j ≡ Mov
-    immediate true t s i j = refl
-    immediate false t s i j = absurd t
-
-    go : (a : Bool) → is k Mov ≡ a → (b : Bool) → is k Stm ≡ b → (c : Bool) → is k Ldm ≡ c → (d : Bool) → is k Str ≡ d → (f : Bool) → is k Ldr ≡ f → T (test a b c d f) → named a b c d f ≡ k
-    go true p b q c s d u f v t = immediate (eqb (op / 32 % 2) 1) t (eqb (y / 16 % 2) 1) (y / 32 % 4) (y / 128) ∙ known Mov p
-    go false p true q c s d u f v t =
-        let n : op % 32 ≡ 18 → ⊥ = unlike (op % 32) 18 t in
-        ap (λ (x : Bool). elim x as (λ _. Class) [ true ↦ Push | false ↦ Stm ]) (ne_eqb (op % 32 * 16 + rn) 301 (λ e. n (omega arith))) ∙ known Stm q
-    go false p false q true s d u f v t =
-        let n : op % 32 ≡ 11 → ⊥ = unlike (op % 32) 11 t in
-        ap (λ (x : Bool). elim x as (λ _. Class) [ true ↦ Pop | false ↦ Ldm ]) (ne_eqb (op % 32 * 16 + rn) 189 (λ e. n (omega arith))) ∙ known Ldm s
-    go false p false q false s true u f v t =
-        let n : op ≡ 82 → ⊥ = unlike op 82 t in
-        ap (λ (x : Bool). elim x as (λ _. Class) [ true ↦ elim (eqb y 4) as (λ _. Class) [ true ↦ Push | false ↦ Str ] | false ↦ Str ]) (ne_eqb (op * 16 + rn) 1325 (λ e. n (omega arith))) ∙ known Str u
-    go false p false q false s false u true v t =
-        let n : op ≡ 73 → ⊥ = unlike op 73 t in
-        ap (λ (x : Bool). elim x as (λ _. Class) [ true ↦ elim (eqb y 4) as (λ _. Class) [ true ↦ Pop | false ↦ Ldr ] | false ↦ Ldr ]) (ne_eqb (op * 16 + rn) 1181 (λ e. n (omega arith))) ∙ known Ldr v
-    go false p false q false s false u false v t = refl
+unfolding chosen shifted class_no
+kept k op rn y r t = grind (arith, nat_tests)
 
 -- a word's fields below op, by parts
 odd-of : (i u : ℕ) → u < 8192 → (i * 8192 + u) / 4096 % 2 ≡ u / 4096
@@ -238,14 +177,7 @@ abbrev pub on_sp : Class → Class → ℕ → Class
 on_sp n k rn = elim (eqb rn 13) [ true ↦ n | false ↦ k ]
 
 shift-test : (a x b : ℕ) → eqb (a + x) (a + b) ≡ eqb x b
-shift-test a x b = go (eqb x b) refl
-  where
-    apart : eqb x b ≡ false → x ≡ b → ⊥
-    apart e f = subst (λ (c : Bool). T (not c)) (sym e ∙ eq-eqb x b f) tt
-
-    go : (t : Bool) → eqb x b ≡ t → eqb (a + x) (a + b) ≡ t
-    go true e = let f : x ≡ b = eqb→eq x b (subst (λ (c : Bool). T c) (sym e) tt) in eq-eqb (a + x) (a + b) (omega arith)
-    go false e = ne_eqb (a + x) (a + b) (λ f. absurd (apart e (omega arith)))
+shift-test a x b = grind (arith, nat_tests)
 
 pub stm-name : (rn y : ℕ) → name_at Stm 146 rn y ≡ on_sp Push Stm rn
 unfolding chosen class_no

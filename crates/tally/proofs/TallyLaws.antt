@@ -1,7 +1,10 @@
 -- Counts of all classes at once: a list with a place for each class's number, to which words are added class by class.
-use Rattle.base.proofs.Prelude.{◌∙◌, sym, refl, ◌≡◌, ap, subst, false, true, Bool, List, [], ◌∷◌, ℕ, ◌+◌, ◌<◌, suc, ◌*◌, zero, arith, eqb, T, eqb→eq}
-use Rattle.base.proofs.Prelude.{length, get_or, length-set, set, eq-eqb}
-use lib.Seq.{get_or-set_same, get_or-set_other}
+use Rattle.base.proofs.Prelude.{◌∙◌, refl, ◌≡◌, ap, List, [], ◌∷◌, ℕ, ◌+◌, suc, ◌*◌, zero, arith}
+use Rattle.base.proofs.Prelude.{length, get_or, length-set, set}
+use Rattle.std.proofs.lemmas.Grind.{get_or-set_at}
+use Rattle.std.proofs.lemmas.List.{get_or-set_other}
+use Rattle.std.proofs.lemmas.Bool.Decides.{nat_tests}
+use native.Mathlib.Omega.{arith}
 use Rattle.classes.specs.declared.Class.{Class}
 use Rattle.classes.specs.Class.{class_no, is}
 use Rattle.classes.proofs.Numbers.{class-below}
@@ -34,18 +37,9 @@ added-length x (c ∷ cs) v = length-set (added x cs v) (class_no c) _ ∙ added
 pub added-at : (x : ℕ) (cs : List Class) (v : List ℕ) → length v ≡ 74 → (k : Class) → get_or (added x cs v) (class_no k) 0 ≡ get_or v (class_no k) 0 + x * how_often k cs
 unfolding added
 added-at x [] v l k = omega arith
-added-at x (c ∷ cs) v l k = go (added-at x cs v l k) (is c k) refl
-  where
-    w : List ℕ
-    w = added x cs v
-
-    unlike : is c k ≡ false → class_no k ≡ class_no c → ⊥
-    unlike e n = subst (λ (b : Bool). T b) (sym (eq-eqb (class_no c) (class_no k) (sym n)) ∙ e) tt
-
-    go : get_or w (class_no k) 0 ≡ get_or v (class_no k) 0 + x * how_often k cs → (b : Bool) → is c k ≡ b → get_or (set w (class_no c) (get_or w (class_no c) 0 + x)) (class_no k) 0 ≡ get_or v (class_no k) 0 + x * (how_often k cs + one b)
-    go before true e =
-        let n : class_no c ≡ class_no k = eqb→eq (class_no c) (class_no k) (subst (λ (b : Bool). T b) (sym e) tt) in
-        subst (λ (i : ℕ). get_or (set w i (get_or w i 0 + x)) (class_no k) 0 ≡ get_or v (class_no k) 0 + x * (how_often k cs + 1)) (sym n)
-        (get_or-set_same w (class_no k) (get_or w (class_no k) 0 + x) 0 (subst (λ (m : ℕ). class_no k < m) (sym (added-length x cs v ∙ l)) (class-below k)) ∙ ap (λ (y : ℕ). y + x) before ∙ omega arith)
-    go before false e =
-        get_or-set_other w (class_no c) (class_no k) (get_or w (class_no c) 0 + x) 0 (unlike e) ∙ before ∙ omega arith
+added-at x (c ∷ cs) v l k =
+    let before = added-at x cs v l k in
+    let long = added-length x cs v in
+    let c-below = class-below c in
+    let k-below = class-below k in
+    grind (arith, nat_tests, get_or-set_at, get_or-set_other)

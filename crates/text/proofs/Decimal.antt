@@ -1,7 +1,7 @@
 -- The laws of `decimal`.
 -- Assumes nothing.
 use Rattle.base.proofs.Prelude.{◌∙◌, refl, ◌≡◌, subst, false, true, Bool, List, [], ◌∷◌, ◌≤◌, ℕ, ◌+◌, ◌<◌, ◌-◌, suc, zero, ◌^◌, ◌/◌, ◌%◌, zero-le}
-use Rattle.base.proofs.Prelude.{arith, add-zero, eqb, length, ne_eqb, lt-ltb}
+use Rattle.base.proofs.Prelude.{arith, add-zero, add-one, max, ◌*◌, eqb, length, ne_eqb, lt-ltb}
 use native.Mathlib.Nat.{add-suc, one-mul, one-le-pow, zero-lt-suc, lt_of_not-le, lt_of_lt_of_le, pow-le-pow_right, pow-succ', div-eq_of_lt, div-lt_iff_lt-mul, le-div_iff_mul-le, mod-eq_of_lt}
 use Rattle.text.specs.Hex.{hex_digit, digits}
 use Rattle.base.specs.Choice.{pick}
@@ -10,21 +10,6 @@ use Rattle.text.proofs.Hex.{digits-length}
 
 ten-pos : (n : ℕ) → 0 < 10 ^ n
 ten-pos n = one-le-pow n 10 (zero-lt-suc 9)
-
--- ---- how many digits a number has
-
-pub some_left : (n v : ℕ) → 0 < v / 10 ^ n → 10 ^ n ≤ v
-some_left n v h = rw one-mul at ((le-div_iff_mul-le (ten-pos n)).0 h)
-
-pub none_left : (n v : ℕ) → v / 10 ^ n ≡ 0 → v < 10 ^ n
-none_left n v e =
-    let less : v / 10 ^ n < 1 = omega arith in
-    rw one-mul at ((div-lt_iff_lt-mul (ten-pos n)).0 less)
-
--- a u64 has at most 20
-pub few-digits : (n v : ℕ) → 10 ^ n ≤ v → v < 2 ^ 64 → n < 20
-few-digits n v h fits =
-    lt_of_not-le (λ many. let most : 10 ^ 20 ≤ 10 ^ n = pow-le-pow_right (zero-lt-suc 9) many in omega arith)
 
 -- ---- leading zeros
 
@@ -96,6 +81,19 @@ unfolding decimal
 decimal-length zero v pos few h = absurd (omega arith)
 decimal-length (suc n) v pos few h =
     rw (strip-all n v few h) (rw digits-length at (strip-length (digits 10 (suc n) v)))
+
+-- ---- how many digits a number has
+
+-- one more than the power of ten that it reaches
+pub decimal_long : (k v : ℕ) → 10 ^ k ≤ max v 1 → max v 1 < 10 * 10 ^ k → k < 20 → length (decimal v) ≡ k + 1
+decimal_long zero zero least most few = rw (decimal-is 1 0 (omega arith) (omega arith) (λ h. absurd (omega arith)) (omega arith), digits-length)
+decimal_long (suc k) zero least most few =
+    let next : 10 ^ suc k ≡ 10 * 10 ^ k = rw pow-succ' in
+    absurd (omega (arith, ten-pos k))
+decimal_long k (suc v) least most few =
+    let next : 10 ^ suc k ≡ 10 * 10 ^ k = rw pow-succ' in
+    let back : suc k - 1 ≡ k = omega arith in
+    rw (decimal-is (suc k) (suc v) (omega arith) few (λ h. rw back (omega arith)) (omega arith), digits-length, add-one)
 
 -- ---- examples
 

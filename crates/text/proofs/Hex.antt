@@ -15,6 +15,9 @@ pub hex-length : (n v : ℕ) → length (hex n v) ≡ n
 unfolding hex
 hex-length n v = digits-length 16 n v
 
+-- how long a number's digits are
+pub ruleset lengths = (digits-length, hex-length)
+
 -- one more digit is taken off the end
 pub shift-more : (b n v : ℕ) → v / b ^ n / b ≡ v / b ^ (n + 1)
 shift-more b n v = rw (div-div-eq-div-mul, add-one, pow-suc)

@@ -6,7 +6,8 @@ use Rattle.base.proofs.Prelude.{add-one, length, get_or, drop, take, length-drop
 use Rattle.base.proofs.Prelude.{take_at, drop-drop, get_or-drop, get_or-take}
 use native.Mathlib.Nat.{zero-add, add_assoc}
 use lib.ListN.{length-take, get_or-append}
-use lib.Seq.{take-take, take-suc, take-append-le, set_split}
+use lib.Seq.{take-take, take-append-le, set_split}
+use borrow.Rule.Slice.PartMut.{put_mid}
 use Rattle.text.specs.Put.{put, Written}
 
 -- `put` as it is defined, for a proof in which it stays shut elsewhere
@@ -106,12 +107,10 @@ pub put-cons : (l : List ℕ) (at : ℕ) (t : List ℕ) (b : ℕ) → at + 1 + l
 put-cons l at t b h =
     set-put (put l (at + 1) t) at b (rw (put-length l (at + 1) t h) (omega arith)) ∙ put-put-back l at (b ∷ []) t (omega arith)
 
--- the next byte of t: a turn of a loop that copies t
-pub put-take : (l : List ℕ) (at : ℕ) (t : List ℕ) (i : ℕ) → at + i < length l → i < length t
-    → set (put l at (take i t)) (at + i) (get_or t i 0) ≡ put l at (take (i + 1) t)
-put-take l at t i h k =
-    let i-taken : length (take i t) ≡ i = length-take-le i t (omega arith) in
-    rw (add-one, take-suc t i 0) (rw i-taken at (put-set l at (take i t) (get_or t i 0) (rw i-taken h)))
+-- a part of the list that is overwritten
+pub put_part : (l : List ℕ) (at : ℕ) (t : List ℕ) → put_mid at (at + length t - at) l t ≡ put l at t
+unfolding put
+put_part l at t = let all : at + length t - at ≡ length t = omega arith in rw (all, drop-drop)
 
 -- ---- what a writer ensures
 

@@ -4,8 +4,8 @@ use Rattle.base.proofs.Prelude.{◌∙◌, refl, ◌≡◌, ap, false, true, Boo
 use Rattle.base.proofs.Prelude.{length-drop, length-replicate, ltb-false}
 use lib.Dec.{lit<}
 use Rattle.arm.specs.Ins.{decode_of}
-use Rattle.base.specs.declared.word.Word.TheVariants.{Found, Missing}
-use Rattle.base.specs.Refusals.{no_epilogue}
+use Rattle.std.specs.Prelude.{Some, None}
+use Rattle.base.specs.declared.refusal.Refusal.TheVariants.{NoEpilogue}
 use Rattle.base.specs.Words.{word_from, first_word}
 use Rattle.context.specs.declared.State.{State}
 use Rattle.context.specs.declared.Handled.{Handled}
@@ -54,7 +54,7 @@ settles-counts o w pool (Ends end) h s = refl
 settles-counts o w pool (Refuses n r) h s = refl
 
 module _ (o : Options) (code starts : List ℕ) (w : Walk) (before : Lists) where
-  pub looks-settled : {after : Lists} {r : Handled} {x : Walk} {word : ℕ} → word_from code o.base w.progress.address ≡ Found word
+  pub looks-settled : {after : Lists} {r : Handled} {x : Walk} {word : ℕ} → word_from code o.base w.progress.address ≡ Some word
       → Handles (given_by o code starts before) r before after
       (handle_ins (decode_of word w.progress.address) word arm_size (context_in (given_by o code starts before) w.registers (state_of w) before))
       → x ≡ settles o w (key_or0 (first_key (map_in pool_row r.stepped.state.counts.pools after.pools))) r.stepped.then r.registers r.stepped.state
@@ -67,13 +67,13 @@ module _ (o : Options) (code starts : List ℕ) (w : Walk) (before : Lists) wher
         ∙ ap (settled (context_at (given_by o code starts before) w (maps_in w.counts before))) h.says);
   })
 
-  pub looks-missing : {x : Walk} → word_from code o.base w.progress.address ≡ Missing → AllHeld w.counts before
-      → x ≡ refused_walk w w.counts no_epilogue 0 0 → Looks x before before (turn (given_by o code starts before) w (maps_in w.counts before))
+  pub looks-missing : {x : Walk} → word_from code o.base w.progress.address ≡ None → AllHeld w.counts before
+      → x ≡ refused_walk w w.counts NoEpilogue 0 0 → Looks x before before (turn (given_by o code starts before) w (maps_in w.counts before))
   unfolding turn
   looks-missing e h is = rw is (record { held = h; places = refl; says = rw e })
 
 -- a word in the code is not at the end of 32 bits
-pub word_fits : (code : List ℕ) (base a word : ℕ) → word_from code base a ≡ Found word → base + length code ≤ 0x0300_0000 → a + 4 < 2 ^ 32
+pub word_fits : (code : List ℕ) (base a word : ℕ) → word_from code base a ≡ Some word → base + length code ≤ 0x0300_0000 → a + 4 < 2 ^ 32
 unfolding word_from first_word
 word_fits code base a word e fits = step (ltb a base) (ltb (length code) (a - base)) (ltb (length (drop (a - base) code)) 4) refl refl refl
   where

@@ -7,8 +7,8 @@ ghost use Rattle.context.specs.Turn.{turn};
 ghost use Rattle.rows.specs.Map.{Held};
 ghost use Rattle.turn.specs.Turning.{Looks, Turns};
 
-use base::refusal::NO_EPILOGUE;
-use base::word::{Word, word_from};
+use base::refusal::Refusal;
+use base::word::word_from;
 use handle_ins::handle_ins;
 use outcome::{clear_all, is_refused, no_counts, refused_walk, settle, state_of, with_counts};
 use walk::{Options, Walk};
@@ -33,7 +33,7 @@ fn look(
 {
     let p = w.progress;
     match word_from(code, o.base, p.address) {
-        Word::Found(word) => {
+        Some(word) => {
             let r = handle_ins(
                 o,
                 state_of(w),
@@ -51,9 +51,9 @@ fn look(
             );
             settle(o, w, r, pools)
         }
-        Word::Missing => {
+        None => {
             let counts = w.counts;
-            refused_walk(w, counts, NO_EPILOGUE, 0, 0)
+            refused_walk(w, counts, Refusal::NoEpilogue, 0, 0)
         }
     }
 }

@@ -3,8 +3,8 @@
 use Rattle.base.proofs.Prelude.{◌∙◌, sym, refl, ◌≡◌, ap, subst, true, false, Bool, List, [], ◌∷◌, ℕ, ◌+◌, arith, length, replicate, eq-eqb}
 use Rattle.arm.specs.declared.Ins.{Ins}
 use Rattle.arm.specs.Ins.{decode_of}
-use Rattle.base.specs.declared.word.Word.TheVariants.{Found, Missing}
-use Rattle.base.specs.Refusals.{no_epilogue}
+use Rattle.std.specs.Prelude.{Some, None}
+use Rattle.base.specs.declared.refusal.Refusal.TheVariants.{NoEpilogue}
 use Rattle.base.specs.Words.{word_from}
 use Rattle.calls.specs.declared.Call.{Call}
 use Rattle.calls.specs.declared.Edit.{Edit}
@@ -26,7 +26,8 @@ use Rattle.handle_ins.proofs.Laws.{handles-ins}
 use Rattle.outcome.specs.Outcome.{state_of, with_counts, refused_walk, settles, is_refused}
 use Rattle.outcome.proofs.Laws.{all-zeroed}
 use Rattle.registers.specs.declared.Registers.{Registers}
-use Rattle.rows.specs.declared.Entered.{Entered}
+use Rattle.std.specs.Prelude.{Result}
+use Rattle.base.specs.declared.refusal.Refusal.{Refusal}
 use Rattle.rows.specs.Map.{Held, map_in, first_key}
 use Rattle.rows.proofs.MapLaws.{in-order-held}
 use Rattle.turn.specs.Turning.{Looks, Turns}
@@ -81,7 +82,7 @@ module _ (o : Options) (code starts : List ℕ) (w : Walk) (told : Told) (before
     (puts : PutsIf (λ l. told.is_called ≡ is_destination (w.progress.address + 4) l.calls) (all_in o code starts w.registers before) (all_in o code starts r.registers after)
     (handle_ins_inner i word 4) (headed (w.progress.address + 4) (state_of w)) r.stepped) where
   -- the pools are held whatever the calls are
-  pub look-pools : (e : Entered) {p x : Stepped} → p ≡ with_entry e r.stepped → x ≡ passes i p → Held pool_row x.state.counts.pools after.pools
+  pub look-pools : (e : Result ℕ Refusal) {p x : Stepped} → p ≡ with_entry told.count e r.stepped → x ≡ passes i p → Held pool_row x.state.counts.pools after.pools
   look-pools e {p} entered passed = rw passed (step p.then)
     where
       some : Held pool_row p.state.counts.pools after.pools
@@ -96,11 +97,11 @@ module _ (o : Options) (code starts : List ℕ) (w : Walk) (told : Told) (before
       step (Ends a) = some
       step (Refuses n x) = some
 
-  pub look-found : (e : Entry) {p x : Stepped} {walk : Walk} → told.is_ordered ≡ true → word_from code o.base w.progress.address ≡ Found word
+  pub look-found : (e : Entry) {p x : Stepped} {walk : Walk} → told.is_ordered ≡ true → word_from code o.base w.progress.address ≡ Some word
       → i ≡ decode_of word w.progress.address
       → ((calls : List Call) (n : ℕ) → Tells calls n r.stepped.state.progress.address told → Held call_row n (numbers_of calls)
-      → Stores n (numbers_of calls) (numbers_of (edited e.edit calls)) r.stepped (with_entry e.entered r.stepped))
-      → p ≡ with_entry e.entered r.stepped → x ≡ passes i p
+      → Stores n (numbers_of calls) (numbers_of (edited e.edit calls)) r.stepped (with_entry told.count e.entered r.stepped))
+      → p ≡ with_entry told.count e.entered r.stepped → x ≡ passes i p
       → walk ≡ settles o w (key_or0 (first_key (map_in pool_row x.state.counts.pools after.pools))) x.then r.registers x.state
       → Edits e.edit (TellsAt w told) before after (λ l m. Looks walk l m (turn_in o code starts w l))
   look-found e {p} {x} ordered found decoded stores entered passed settled = record {
@@ -120,7 +121,7 @@ module _ (o : Options) (code starts : List ℕ) (w : Walk) (told : Told) (before
   }
 
 pub look-missing : (o : Options) (code starts : List ℕ) (w : Walk) (told : Told) (before : Lists) {e : Edit} {walk : Walk} → OthersHeld w.counts before
-    → told.is_ordered ≡ true → word_from code o.base w.progress.address ≡ Missing → walk ≡ refused_walk w w.counts no_epilogue 0 0 → e ≡ clearing 0
+    → told.is_ordered ≡ true → word_from code o.base w.progress.address ≡ None → walk ≡ refused_walk w w.counts NoEpilogue 0 0 → e ≡ clearing 0
     → Edits e (TellsAt w told) before before (λ l m. Looks walk l m (turn_in o code starts w l))
 look-missing o code starts w told before held ordered missing is clears =
     rw clears (unedited (λ calls t. looks-missing o code starts w (with_calls before calls) missing (all_held held (calls-held t ordered)) is))

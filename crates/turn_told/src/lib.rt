@@ -15,15 +15,14 @@ ghost use Rattle.turn.specs.Turning.{Looks, Turns};
 ghost use Rattle.turn_told.specs.Told.{others, OthersHeld, turn_in, TellsAt, Edits};
 
 use arm::Ins;
-use base::refusal::NO_EPILOGUE;
-use base::word::{Word, word_from};
+use base::refusal::Refusal;
+use base::word::word_from;
 use calls::{Call, Edit, Entry, Told, clear, enter};
-use context::{Handled, Put, State, Stepped, assign, in_conditional_block, is_on, load_into, pass};
+use context::{Handled, State, Stepped, assign, in_conditional_block, is_on, load_into, pass};
 use handle_ins::with_entry;
 use handling::{from_return, to_return};
 use outcome::{is_refused, no_counts, refused_walk, settle, state_of, with_counts};
 use predicates::is_return;
-use rows::Entered;
 use rows::order::zero;
 use walk::{Options, Walk};
 
@@ -73,7 +72,7 @@ fn inner(
     }
     let t = r.state;
     // for def in ins.defs()
-    let known = registers::forget(held, ins.defs);
+    let known = held.forget(ins.defs);
     let p = t.progress;
     let inside = in_conditional_block(t);
     let returns = is_return(p.address, ins, p.previous);
@@ -103,32 +102,24 @@ fn inner(
 
 // The step's call entered, where it has one.
 fn put_call(r: Stepped, told: Told) -> Entry
-    ensures { (calls : List Call) (n : ℕ) → Tells calls n r.state.progress.address told → Held call_row n (numbers_of calls) → Stores n (numbers_of calls) (numbers_of (edited result.edit calls)) r (with_entry result.entered r) }
+    ensures { (calls : List Call) (n : ℕ) → Tells calls n r.state.progress.address told → Held call_row n (numbers_of calls) → Stores n (numbers_of calls) (numbers_of (edited result.edit calls)) r (with_entry told.count result.entered r) }
 {
     let s = r.state;
     let p = s.progress;
-    let call = s.call;
-    match call {
-        Put::Nothing => Entry {
-            entered: Entered {
-                full: false,
-                count: told.count,
-            },
-            edit: clear(0),
-        },
-        Put::Call {
-            word,
-            destination,
-            mode,
-        } => enter(
+    match s.call {
+        Some(call) => enter(
             told,
             Call {
                 address: p.address,
-                word,
-                destination,
-                mode,
+                word: call.word,
+                destination: call.destination,
+                mode: call.mode,
             },
         ),
+        None => Entry {
+            entered: Ok(told.count),
+            edit: clear(0),
+        },
     }
 }
 
@@ -148,7 +139,7 @@ fn look(
     ensures { Edits result.edit (TellsAt w told) (others labels.old pools.old jump_tables.old inline_tables.old) (others labels.new pools.new jump_tables.new inline_tables.new) (λ l m. Looks result.walk l m (turn_in o code.now starts.now w l)) }
 {
     match word_from(code, o.base, w.progress.address) {
-        Word::Found(word) => {
+        Some(word) => {
             let ins = arm::decode(word, w.progress.address);
             let handled = inner(
                 o,
@@ -166,18 +157,17 @@ fn look(
             let registers = handled.registers;
             let r = handled.stepped;
             let put = put_call(r, told);
-            let e = put.entered;
             let edit = put.edit;
-            let stepped = pass(with_entry(r, e), ins);
+            let stepped = pass(with_entry(r, told.count, put.entered), ins);
             Looked {
                 walk: settle(o, w, Handled { stepped, registers }, pools),
                 edit,
             }
         }
-        Word::Missing => {
+        None => {
             let counts = w.counts;
             Looked {
-                walk: refused_walk(w, counts, NO_EPILOGUE, 0, 0),
+                walk: refused_walk(w, counts, Refusal::NoEpilogue, 0, 0),
                 edit: clear(0),
             }
         }

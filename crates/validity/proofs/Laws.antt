@@ -1,62 +1,45 @@
--- The laws of the refusals 1 to 4: a test that is written with other numbers, a turn of each loop, and what a step that passed them has shown.
+-- The laws of the refusals 1 to 4: the tests of all pools, and what a step that passed them has shown.
 -- Assumes nothing.
-use Rattle.base.proofs.Prelude.{sym, refl, ◌≡◌, false, true, Bool, List, [], ◌≤◌, ℕ, ◌+◌, ◌<◌, ◌%◌, arith, add-one, eqb, leb, length, get_or, drop}
-use Rattle.base.proofs.Prelude.{drop_of_length-le, drop-cons, eq-eqb, ne_eqb, le-leb, lt-leb, leb-true, eqb-true, leb-false}
+use Rattle.base.proofs.Prelude.{refl, ◌≡◌, false, true, Bool, List, [], ◌∷◌, ◌≤◌, ℕ, ◌+◌, ◌<◌, ◌%◌, arith, eqb, leb, length}
+use Rattle.base.proofs.Prelude.{leb-true, eqb-true}
 use lib.Dec.{lit<}
-use Rattle.base.specs.Choice.{pick}
+use Rattle.std.specs.Prelude.{Result, Ok, Err, ◌&&◌}
+use Rattle.std.specs.List.{list_all}
+use Rattle.base.specs.declared.refusal.Refusal.{Refusal}
+use Rattle.base.specs.declared.refusal.Refusal.TheVariants.{BadWindow, BadStart, UnalignedStart, BadLists}
+use Rattle.base.specs.Choice.{pick, both, either}
 use Rattle.context.specs.Context.{label_row, pool_row, table_row}
 use Rattle.context.specs.Lists.{Lists, AllHeld, maps_in}
 use Rattle.context.specs.Turn.{key_or0}
 use Rattle.rows.specs.Map.{key_of, stands-in, last_key, Held, in_order}
 use Rattle.rows.proofs.MapLaws.{in-order-held}
 use Rattle.base.proofs.ChoiceLaws.{both_first, both-second}
-use Rattle.validity.specs.Validity.{low, high, is_window, is_in_code, are_starts, are_in_order, is_whole, are_whole, are_held, are_pools, are_lists, step_number}
+use Rattle.validity.specs.Validity.{low, high, is_window, is_in_code, are_starts, are_in_order, is_whole, are_whole, are_held, are_pools, are_lists, step_check}
 use Rattle.walk.specs.declared.Counts.{Counts}
 use Rattle.walk.specs.declared.Options.{Options}
 use Rattle.walk.specs.declared.Walk.{Walk}
 
--- two tests of numbers that hold together and fail together
-pub same-leb : (a b x y : ℕ) → (a ≤ b → x ≤ y) → (b < a → y < x) → leb a b ≡ leb x y
-same-leb a b x y up down = step (leb a b) refl
-  where
-    step : (t : Bool) → leb a b ≡ t → t ≡ leb x y
-    step true e = sym (le-leb x y (up (leb-true a b e)))
-    step false e = sym (lt-leb x y (down (leb-false a b e)))
+-- ---- the tests of each pool and of each register's pool
 
--- ---- the pools from the i-th on
-
-module _ (base code : ℕ) (pools : List (List ℕ)) (i : ℕ) (h : i < length pools) where
-  pub whole-not : is_whole base code (key_of (get_or pools i [])) ≡ false → are_whole base code (drop i pools) ≡ false
-  unfolding are_whole
-  whole-not e = rw (drop-cons pools i [] h, e)
-
-  pub whole-next : is_whole base code (key_of (get_or pools i [])) ≡ true → are_whole base code (drop i pools) ≡ are_whole base code (drop (i + 1) pools)
-  unfolding are_whole
-  whole-next e = rw (drop-cons pools i [] h, e, add-one)
-
-pub whole-done : (base code : ℕ) (pools : List (List ℕ)) (i : ℕ) → length pools ≤ i → are_whole base code (drop i pools) ≡ true
+pub whole-all : (base code : ℕ) (pools : List (List ℕ)) → list_all (λ p. is_whole base code (key_of p)) pools ≡ are_whole base code pools
 unfolding are_whole
-whole-done base code pools i h = rw (drop_of_length-le pools h)
+whole-all base code [] = refl
+whole-all base code (p ∷ ps) = step (is_whole base code (key_of p)) (whole-all base code ps)
+  where
+    step : (b : Bool) → list_all (λ p. is_whole base code (key_of p)) ps ≡ are_whole base code ps
+        → (b && list_all (λ p. is_whole base code (key_of p)) ps) ≡ both b (are_whole base code ps)
+    step true e = e
+    step false e = refl
 
--- ---- the registers' pools from register r on
-
-module _ (sources : List ℕ) (r : ℕ) (pools : List (List ℕ)) (h : r < length sources) where
-  pub held-zero : get_or sources r 0 ≡ 0 → are_held (drop r sources) pools ≡ are_held (drop (r + 1) sources) pools
-  unfolding are_held
-  held-zero e = rw (drop-cons sources r 0 h, eq-eqb (get_or sources r 0) 0 e, add-one)
-
-  pub held_next : (get_or sources r 0 ≡ 0 → ⊥) → stands-in pools (get_or sources r 0) ≡ true
-      → are_held (drop r sources) pools ≡ are_held (drop (r + 1) sources) pools
-  unfolding are_held
-  held_next d e = rw (drop-cons sources r 0 h, ne_eqb (get_or sources r 0) 0 d, e, add-one)
-
-  pub held-not : (get_or sources r 0 ≡ 0 → ⊥) → stands-in pools (get_or sources r 0) ≡ false → are_held (drop r sources) pools ≡ false
-  unfolding are_held
-  held-not d e = rw (drop-cons sources r 0 h, ne_eqb (get_or sources r 0) 0 d, e)
-
-pub held-done : (sources : List ℕ) (r : ℕ) (pools : List (List ℕ)) → length sources ≤ r → are_held (drop r sources) pools ≡ true
+pub held-all : (sources : List ℕ) (pools : List (List ℕ)) → list_all (λ s. either (eqb s 0) (stands-in pools s)) sources ≡ are_held sources pools
 unfolding are_held
-held-done sources r pools h = rw (drop_of_length-le sources h)
+held-all [] pools = refl
+held-all (s ∷ ss) pools = step (either (eqb s 0) (stands-in pools s)) (held-all ss pools)
+  where
+    step : (b : Bool) → list_all (λ s. either (eqb s 0) (stands-in pools s)) ss ≡ are_held ss pools
+        → (b && list_all (λ s. either (eqb s 0) (stands-in pools s)) ss) ≡ both b (are_held ss pools)
+    step true e = e
+    step false e = refl
 
 -- ---- lists in order
 
@@ -89,18 +72,18 @@ pub record Passed (o : Options) (code starts : List ℕ) (w : Walk) (l : Lists) 
   pub held : are_held w.registers.sources (maps_in w.counts l).pools ≡ true
 
 -- a test before 0, and what comes after it
-passes : (b : Bool) (x k : ℕ) → 0 < k → pick b x k ≡ 0 → (b ≡ true) × (x ≡ 0)
-passes true x k h e = (refl, e)
-passes false x k h e = absurd (omega arith)
+passes : (b : Bool) (x : Result (Unit {0}) Refusal) (r : Refusal) → pick b x (Err r) ≡ Ok tt → (b ≡ true) × (x ≡ Ok tt)
+passes true x r e = (refl, e)
+passes false x r e = cc
 
 module _ (o : Options) (code starts : List ℕ) (w : Walk) (l : Lists) where
-  pub number_passed : step_number o (length code) starts w l ≡ 0 → Passed o code starts w l
-  unfolding step_number are_lists are_pools are_starts
+  pub number_passed : step_check o (length code) starts w l ≡ Ok tt → Passed o code starts w l
+  unfolding step_check are_lists are_pools are_starts
   number_passed e =
-      let a = passes (is_window o (length code)) _ 1 (lit< tt) e in
-      let b = passes _ _ 2 (lit< tt) a.1 in
-      let c = passes (eqb (w.progress.start % 4) 0) _ 3 (lit< tt) b.1 in
-      let d = passes _ 0 4 (lit< tt) c.1 in
+      let a = passes (is_window o (length code)) _ BadWindow e in
+      let b = passes _ _ BadStart a.1 in
+      let c = passes (eqb (w.progress.start % 4) 0) _ UnalignedStart b.1 in
+      let d = passes _ (Ok tt) BadLists c.1 in
       let lists = both-second (are_starts starts) _ d.0 in
       let pools = both-second (are_in_order w.counts l) _ lists in
       let held = both-second (are_whole o.base (length code) (maps_in w.counts l).pools) _ pools in

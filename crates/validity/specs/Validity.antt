@@ -1,8 +1,9 @@
--- Document 01's refusals 1 to 4: the number of the first check that fails, or 0.
+-- The first four refusals: the first check that fails.
 -- Assumes nothing.
-use Rattle.std.specs.Prelude.{Bool, true, List, [], ◌∷◌, ℕ, ◌+◌, ◌%◌, eqb, leb, length}
+use Rattle.std.specs.Prelude.{Result, Ok, Err, Bool, true, List, [], ◌∷◌, ℕ, ◌+◌, ◌%◌, eqb, leb, length}
 use Rattle.base.specs.Choice.{pick, both, either}
-use Rattle.base.specs.Refusals.{bad_window, bad_start, unaligned_start, bad_lists}
+use Rattle.base.specs.declared.refusal.Refusal.{Refusal}
+use Rattle.base.specs.declared.refusal.Refusal.TheVariants.{BadWindow, BadStart, UnalignedStart, BadLists}
 use Rattle.context.specs.Context.{label_row, pool_row, table_row, call_row}
 use Rattle.context.specs.Lists.{Lists, maps_in}
 use Rattle.context.specs.Turn.{key_or0}
@@ -32,13 +33,13 @@ is_in_code base length start = both (leb base start) (leb start (base + length))
 unfoldable pub are_starts : List ℕ → Bool
 are_starts starts = in_order 1 (length starts) starts
 
-unfoldable pub begin_number : Options → ℕ → ℕ → List ℕ → ℕ
-begin_number o start length starts =
+unfoldable pub begin_check : Options → ℕ → ℕ → List ℕ → Result (Unit {0}) Refusal
+begin_check o start length starts =
     pick (is_window o length)
     (pick (is_in_code o.base length start)
     (pick (eqb (start % 4) 0)
-    (pick (are_starts starts) 0 bad_lists)
-    unaligned_start) bad_start) bad_window
+    (pick (are_starts starts) (Ok tt) (Err BadLists))
+    (Err UnalignedStart)) (Err BadStart)) (Err BadWindow)
 
 -- 4 at a step: each list holds a map of its count, and zeros after it
 unfoldable pub are_in_order : Counts → Lists → Bool
@@ -73,10 +74,10 @@ are_lists o length w l =
     (are_pools o.base length w.progress.last_pool_address w.registers.sources (maps_in w.counts l).pools)
 
 -- at a step also a walk address below base is 2
-unfoldable pub step_number : Options → ℕ → List ℕ → Walk → Lists → ℕ
-step_number o length starts w l =
+unfoldable pub step_check : Options → ℕ → List ℕ → Walk → Lists → Result (Unit {0}) Refusal
+step_check o length starts w l =
     pick (is_window o length)
     (pick (both (is_in_code o.base length w.progress.start) (leb o.base w.progress.address))
     (pick (eqb (w.progress.start % 4) 0)
-    (pick (both (are_starts starts) (are_lists o length w l)) 0 bad_lists)
-    unaligned_start) bad_start) bad_window
+    (pick (both (are_starts starts) (are_lists o length w l)) (Ok tt) (Err BadLists))
+    (Err UnalignedStart)) (Err BadStart)) (Err BadWindow)

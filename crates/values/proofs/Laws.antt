@@ -3,68 +3,71 @@
 use Rattle.base.proofs.Prelude.{◌∙◌, sym, refl, ◌≡◌, ap, false, true, Bool, List, [], ◌∷◌, ℕ, ◌<◌, ◌*◌, arith, length, get_or, ne_eqb, le-leb}
 use Rattle.arm.specs.declared.Ins.{Ins}
 use Rattle.base.specs.Choice.{pick}
-use Rattle.base.specs.Refusals.{list_full}
-use Rattle.base.specs.declared.word.Word.TheVariants.{Found as W-Found}
+use Rattle.std.specs.Prelude.{Some, None, Result, Ok, Err}
 use Rattle.base.specs.Words.{word_from}
 use Rattle.predicates.specs.Predicates.{is_bx, is_pool_load, pool_address}
 use Rattle.registers.specs.declared.Registers.{Registers}
 use Rattle.registers.specs.Registers.{source_of}
-use Rattle.rows.specs.declared.Entered.{Entered}
-use Rattle.rows.specs.declared.Found.TheVariants.{At, Missing}
+use Rattle.base.specs.declared.refusal.Refusal.{Refusal}
 use Rattle.rows.specs.Rows.{rank, stands, inserted}
 use Rattle.rows.specs.Map.{key_of, map_in, Held, index_of, Entering}
 use Rattle.rows.proofs.RowLaws.{inserted-length, stands-within}
 use Rattle.rows.proofs.MapLaws.{map-length}
 use Rattle.walk.specs.declared.Options.{Options}
-use Rattle.context.specs.declared.Load.TheVariants.{Word}
 use Rattle.context.specs.declared.State.{State}
 use Rattle.context.specs.declared.Stepped.{Stepped}
 use Rattle.context.specs.declared.Then.TheVariants.{On, Refuses}
 use Rattle.context.specs.Context.{pool_row, pool_to}
 use Rattle.context.specs.Blocks.{call, other, marked, mark_pool, pool_load}
 use Rattle.context.specs.State.{Does, pools_in, code_in, options_in, registers_in, loaded_in, counted, progressed, count_pools}
-use Rattle.context.proofs.Laws.{entering, pools-held, registers-held}
+use Rattle.context.proofs.Laws.{full-refusal, entered-in, entered-full, pools-held, registers-held}
 
 -- ---- a row for one that is held
 
 module _ (x : ℕ) (m : List (List ℕ)) {i : ℕ} where
-  found-stands : index_of x m ≡ At i → stands key_of x m ≡ true
+  found-stands : index_of x m ≡ Some i → stands key_of x m ≡ true
   unfolding index_of
   found-stands = step (stands key_of x m)
     where
-      step : (b : Bool) → pick b (At (rank key_of x m)) Missing ≡ At i → b ≡ true
+      step : (b : Bool) → pick b (Some (rank key_of x m)) None ≡ Some i → b ≡ true
       step true q = refl
       step false q = cc
 
-  found-place : index_of x m ≡ At i → rank key_of x m ≡ i
+  found-place : index_of x m ≡ Some i → rank key_of x m ≡ i
   unfolding index_of
   found-place = step (stands key_of x m)
     where
-      step : (b : Bool) → pick b (At (rank key_of x m)) Missing ≡ At i → rank key_of x m ≡ i
+      step : (b : Bool) → pick b (Some (rank key_of x m)) None ≡ Some i → rank key_of x m ≡ i
       step true q = cc
       step false q = cc
 
-pub found_within : (k n : ℕ) (list : List ℕ) (x : ℕ) {i : ℕ} → index_of x (map_in k n list) ≡ At i → i < n
+pub found_within : (k n : ℕ) (list : List ℕ) (x : ℕ) {i : ℕ} → index_of x (map_in k n list) ≡ Some i → i < n
 found_within k n list x {i} q =
     omega (arith, stands-within key_of x (map_in k n list) (found-stands x (map_in k n list) q), found-place x (map_in k n list) q, map-length k n list)
 
-missing-stands : (x : ℕ) (m : List (List ℕ)) → index_of x m ≡ Missing → stands key_of x m ≡ false
+missing-stands : (x : ℕ) (m : List (List ℕ)) → index_of x m ≡ None → stands key_of x m ≡ false
 unfolding index_of
 missing-stands x m = step (stands key_of x m)
   where
-    step : (b : Bool) → pick b (At (rank key_of x m)) Missing ≡ Missing → b ≡ false
+    step : (b : Bool) → pick b (Some (rank key_of x m)) None ≡ None → b ≡ false
     step true q = cc
     step false q = refl
 
 -- it needs no free place
-over : {k n : ℕ} {list row after : List ℕ} {e : Entered} → Held k n list → stands key_of (key_of row) (map_in k n list) ≡ true
+over : {k n : ℕ} {list row after : List ℕ} (e : Result ℕ Refusal) → Held k n list → stands key_of (key_of row) (map_in k n list) ≡ true
     → Entering k n list row e after → Held k n after × (map_in k n after ≡ inserted key_of row (map_in k n list))
-over {k} {n} {list} {row} {after} {e} h st i =
-    let many : length (inserted key_of row (map_in k n list)) ≡ n = inserted-length key_of row (map_in k n list) ∙ rw (st, map-length k n list) in
-    let full : e.full ≡ false = i.says ∙ rw (many, le-leb (n * k) (length list) h.fits) in
-    let left : map_in k e.count after ≡ inserted key_of row (map_in k n list) = i.leaves ∙ rw full in
-    let count : e.count ≡ n = sym (map-length k e.count after) ∙ ap length left ∙ many in
-    (rw count at i.held, rw count at left)
+over {k} {n} {list} {row} {after} e h st i = step e i
+  where
+    many : length (inserted key_of row (map_in k n list)) ≡ n
+    many = inserted-length key_of row (map_in k n list) ∙ rw (st, map-length k n list)
+
+    step : (e : Result ℕ Refusal) → Entering k n list row e after → Held k n after × (map_in k n after ≡ inserted key_of row (map_in k n list))
+    step (Ok count) i =
+        let same : count ≡ n = sym (map-length k count after) ∙ ap length i.leaves ∙ many in
+        (rw same at i.held, rw same at i.leaves)
+    step (Err refusal) i =
+        let none : ◌≡◌ {A = Result ℕ Refusal} (Err refusal) (Ok n) = i.says ∙ rw (many, le-leb (n * k) (length list) h.fits) in
+        absurd (let z : ◌≡◌ {A = ℕ} 0 1 = cc in omega arith)
 
 -- ---- the mark of a pool
 
@@ -72,15 +75,15 @@ abbrev pub Marks : ℕ → ℕ → List ℕ → List ℕ → Type 0
 Marks n a before after = Held pool_row n after × (map_in pool_row n after ≡ marked a (map_in pool_row n before))
 
 module _ {n : ℕ} {before : List ℕ} (h : Held pool_row n before) (a : ℕ) where
-  pub mark-found : {i value : ℕ} {after : List ℕ} {e : Entered} → index_of a (map_in pool_row n before) ≡ At i
+  pub mark-found : {i value : ℕ} {after : List ℕ} {e : Result ℕ Refusal} → index_of a (map_in pool_row n before) ≡ Some i
       → value ≡ get_or (get_or (map_in pool_row n before) i []) 1 0 → Entering pool_row n before (a ∷ value ∷ call ∷ []) e after → Marks n a before after
   unfolding marked
-  mark-found q v put =
+  mark-found {e = e} q v put =
       let st = found-stands a (map_in pool_row n before) q in
-      let w = over h st put in
+      let w = over e h st put in
       (w.0, rw (st, found-place a (map_in pool_row n before) q, ← v) w.1)
 
-  pub mark-missing : index_of a (map_in pool_row n before) ≡ Missing → Marks n a before before
+  pub mark-missing : index_of a (map_in pool_row n before) ≡ None → Marks n a before before
   unfolding marked
   mark-missing q = (h, rw (missing-stands a (map_in pool_row n before) q))
 
@@ -98,31 +101,32 @@ marks i s g bx some w long = λ l h.
 
 -- ---- pool load
 
-module _ (o : Options) (i : Ins) (s : State) (code : List ℕ) {a value : ℕ} {e : Entered} {t : State} {before after : List ℕ}
+module _ (o : Options) (i : Ins) (s : State) (code : List ℕ) {a value : ℕ} {before after : List ℕ}
     (load : is_pool_load i ≡ true)
     (ae : a ≡ pool_address s.progress.address i)
-    (q : word_from code o.base a ≡ W-Found value)
-    (put : Entering pool_row s.counts.pools before (a ∷ value ∷ other ∷ []) e after)
-    (long : length after ≡ length before)
-    (te : t ≡ counted (count_pools e.count s.counts) s) where
-  pub pool-full : {r : Stepped} → e.full ≡ true → r ≡ record { then = Refuses list_full 0; state = t }
+    (q : word_from code o.base a ≡ Some value)
+    (long : length after ≡ length before) where
+  pub pool-full : {refusal : Refusal} {r : Stepped} → Entering pool_row s.counts.pools before (a ∷ value ∷ other ∷ []) (Err refusal) after
+      → r ≡ record { then = Refuses refusal 0; state = s }
       → Does (λ l. code_in code (options_in o (pools_in before l))) (λ l. code_in code (options_in o (pools_in after l))) (pool_load i) s r
   unfolding pool_load
-  pool-full full re = λ l h.
-      rw (re, te) (record {
+  pool-full put re = λ l h.
+      rw (re, full-refusal put)
+      (record {
         stays = refl;
         call = refl;
         holds = pools-held (code_in code (options_in o l)) h put.held long;
-        says = sym (rw (load, ← ae, q, entering _ _ h.pool_places put, full));
+        says = sym (rw (load, ← ae, q, entered-full _ _ h.pool_places put));
       })
 
-  pub pool-in : {v : State} {r : Stepped} → e.full ≡ false → v ≡ progressed (pool_to a t.progress) t → r ≡ record { then = On; state = v }
-      → Does (λ l. code_in code (options_in o (pools_in before l))) (λ l. loaded_in (Word i.rd value a) (code_in code (options_in o (pools_in after l)))) (pool_load i) s r
+  pub pool-in : {count : ℕ} {t v : State} {r : Stepped} → Entering pool_row s.counts.pools before (a ∷ value ∷ other ∷ []) (Ok count) after
+      → t ≡ counted (count_pools count s.counts) s → v ≡ progressed (pool_to a t.progress) t → r ≡ record { then = On; state = v }
+      → Does (λ l. code_in code (options_in o (pools_in before l))) (λ l. loaded_in (Some (record { register = i.rd; value = value; address = a })) (code_in code (options_in o (pools_in after l)))) (pool_load i) s r
   unfolding pool_load
-  pool-in full ve re = λ l h.
+  pool-in put te ve re = λ l h.
       rw (re, ve, te) (record {
         stays = refl;
         call = refl;
         holds = registers-held _ (pools-held (code_in code (options_in o l)) h put.held long);
-        says = sym (rw (load, ← ae, q, entering _ _ h.pool_places put, full));
+        says = sym (rw (load, ← ae, q, entered-in _ _ h.pool_places put));
       })

@@ -9,11 +9,10 @@ ghost use Rattle.context.specs.State.{Does, same, pools_in, code_in, options_in,
 
 use analysis::illegal_code::IllegalCodeState;
 use arm::Ins;
-use base::refusal::{LIST_FULL, POOL_OUTSIDE, UNDEFINED_REGISTER};
-use base::word::{Word, word_from};
+use base::refusal::Refusal;
+use base::word::word_from;
 use context::{Load, Loaded, POOL_ROW, State, Stepped, Then, assign};
 use registers::Registers;
-use rows::Found;
 use rows::insert::enter;
 use rows::search::{field, index_of};
 use walk::{Options, checking};
@@ -42,9 +41,10 @@ fn mark(pools: &mut [u32], count: usize, address: u32)
     requires { Held pool_row count pools.old }
     ensures { Held pool_row count pools.new × (map_in pool_row count pools.new ≡ marked address (map_in pool_row count pools.old)) }
 {
-    if let Found::At(k) = index_of(pools, POOL_ROW, count, address) {
+    if let Some(k) = index_of(pools, POOL_ROW, count, address) {
         let value = field(pools, POOL_ROW, count, k, 1);
-        enter(pools, POOL_ROW, count, [address, value, CALL, 0]);
+        // It is held, so it has its place.
+        let _ = enter(pools, POOL_ROW, count, [address, value, CALL, 0]);
     }
 }
 
@@ -57,7 +57,7 @@ pub fn mark_pool(s: State, held: Registers, ins: Ins, pools: &mut [u32])
     if !predicates::is_bx(ins) {
         return;
     }
-    let source = registers::source_of(held, ins.rm);
+    let source = held.source_of(ins.rm);
     if source == 0 {
         return;
     }
@@ -74,32 +74,28 @@ pub fn pool_load(o: Options, s: State, ins: Ins, code: &[u8], pools: &mut [u32])
     if !predicates::is_pool_load(ins) {
         return Loaded {
             stepped: assign::on(s),
-            load: Load::Nothing,
+            load: None,
         };
     }
     let address = predicates::pool_address(p.address, ins);
-    match word_from(code, o.base, address) {
-        Word::Found(value) => {
-            let e = enter(pools, POOL_ROW, n.pools, [address, value, OTHER, 0]);
-            let t = assign::count_pools(s, e.count);
-            if e.full {
-                return Loaded {
-                    stepped: assign::refuse(t, LIST_FULL),
-                    load: Load::Nothing,
-                };
-            }
-            Loaded {
-                stepped: assign::on(assign::pool_to(t, address)),
-                load: Load::Word {
-                    register: ins.rd,
-                    value,
-                    address,
-                },
-            }
-        }
-        Word::Missing => Loaded {
-            stepped: assign::refuse(s, POOL_OUTSIDE),
-            load: Load::Nothing,
+    let Some(value) = word_from(code, o.base, address) else {
+        return Loaded {
+            stepped: assign::refuse(s, Refusal::PoolOutside),
+            load: None,
+        };
+    };
+    match enter(pools, POOL_ROW, n.pools, [address, value, OTHER, 0]) {
+        Ok(count) => Loaded {
+            stepped: assign::on(assign::pool_to(assign::count_pools(s, count), address)),
+            load: Some(Load {
+                register: ins.rd,
+                value,
+                address,
+            }),
+        },
+        Err(refusal) => Loaded {
+            stepped: assign::refuse(s, refusal),
+            load: None,
         },
     }
 }
@@ -112,7 +108,7 @@ pub fn check_defined(o: Options, s: State, ins: Ins, returns: bool) -> Stepped
     if register < 16 {
         return Stepped {
             then: Then::Refuses {
-                number: UNDEFINED_REGISTER,
+                refusal: Refusal::UndefinedRegister,
                 register,
             },
             state: s,

@@ -1,7 +1,7 @@
 -- functions.rs: `new`, `into_function`, and the start before a pool.
 -- Assumes nothing.
-use Rattle.std.specs.Prelude.{ℕ, ◌+◌, max, false, eqb, ltb, replicate}
-use Rattle.base.specs.Refusals.{no_epilogue}
+use Rattle.std.specs.Prelude.{ℕ, ◌+◌, max, false, eqb, ltb, replicate, Option, Some, None}
+use Rattle.base.specs.declared.refusal.Refusal.TheVariants.{NoEpilogue}
 use Rattle.base.specs.Choice.{pick}
 use Rattle.analysis.specs.declared.illegal_code.IllegalCodeState.TheVariants.{Start as I-Start}
 use Rattle.analysis.specs.declared.function_branch.FunctionBranchState.TheVariants.{Start as F-Start}
@@ -10,8 +10,6 @@ use Rattle.analysis.specs.declared.jump_table.JumpTableStateArm.TheVariants.{Cmp
 use Rattle.walk.specs.declared.Answer.{Answer}
 use Rattle.walk.specs.declared.Answer.TheVariants.{Going, Accepted, Refused}
 use Rattle.walk.specs.declared.Counts.{Counts}
-use Rattle.walk.specs.declared.KnownEnd.{KnownEnd}
-use Rattle.walk.specs.declared.KnownEnd.TheVariants.{Nothing, At}
 use Rattle.walk.specs.declared.Options.{Options}
 use Rattle.walk.specs.declared.Walk.{Walk}
 
@@ -34,9 +32,9 @@ begun start n = record {
 }
 
 -- the known end, or the larger of the last instruction's end and the last pool's
-abbrev pub end_address : KnownEnd → ℕ → ℕ → ℕ
-end_address (At end) last pool = end
-end_address Nothing last pool = pick (eqb pool 0) last (max last (pool + 4))
+abbrev pub end_address : Option ℕ → ℕ → ℕ → ℕ
+end_address (Some end) last pool = end
+end_address None last pool = pick (eqb pool 0) last (max last (pool + 4))
 
 -- the first pool where that lies below the start
 unfoldable pub start_of : ℕ → ℕ → ℕ
@@ -45,7 +43,7 @@ start_of start pool = pick (eqb pool 0) start (pick (ltb pool start) pool start)
 -- the record, unless it ends past the module
 abbrev pub record_to : ℕ → ℕ → ℕ → ℕ → ℕ → Answer
 record_to module_end start last pool end =
-    pick (ltb module_end end) (Refused no_epilogue 0 0)
+    pick (ltb module_end end) (Refused NoEpilogue 0 0)
     (Accepted (record { start = start_of start pool; end = end; first_instruction = start; last_instruction_end = last }))
 
 unfoldable pub into_function : Options → ℕ → ℕ → ℕ → ℕ → Answer

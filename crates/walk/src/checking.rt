@@ -4,58 +4,57 @@ ghost use Rattle.walk.specs.Checking.{is_checked, defined_before, undefined_regi
 
 use arm::Ins;
 
+#[tactic(auto, unfolding(crate::specs::Checking::is_checked))]
 fn is_checked(check: bool, ins: Ins) -> bool
     ensures { result ≡ is_checked check ins }
 {
-    if check {
-        return !predicates::is_nop(ins);
-    }
-    false
+    check && !predicates::is_nop(ins)
 }
 
 // A push first defines its list.
+#[tactic(auto, unfolding(crate::specs::Checking::defined_before))]
 fn defined_before(defined: u16, ins: Ins) -> u16
     ensures { result ≡ defined_before defined ins }
 {
     if predicates::is_push(ins) {
-        return defined | ins.regs;
+        defined | ins.regs
+    } else {
+        defined
     }
-    defined
 }
 
 // The lowest register that is read and not defined, or 16. A store on the stack is not looked at.
+#[tactic(auto, unfolding(crate::specs::Checking::undefined_register))]
 pub fn undefined_register(check: bool, defined: u16, ins: Ins) -> u8
     ensures { result ≡ undefined_register check defined ins }
 {
-    if is_checked(check, ins) {
-        if predicates::is_stack_store(ins) {
-            return 16;
-        }
-        return registers::lowest_missing(ins.uses, defined_before(defined, ins));
+    if is_checked(check, ins) && !predicates::is_stack_store(ins) {
+        registers::lowest_missing(ins.uses, defined_before(defined, ins))
+    } else {
+        16
     }
-    16
 }
 
 // A store on the stack defines the register that it stores.
+#[tactic(auto, unfolding(crate::specs::Checking::defined_by))]
 fn defined_by(defined: u16, ins: Ins) -> u16
     ensures { result ≡ defined_by defined ins }
 {
     if predicates::is_stack_store(ins) {
-        return defined | registers::only(ins.rd);
+        defined | registers::only(ins.rd)
+    } else {
+        defined
     }
-    defined
 }
 
 // What is no return defines what it writes.
+#[tactic(auto, unfolding(crate::specs::Checking::defined_after))]
 pub fn defined_after(check: bool, defined: u16, ins: Ins, is_return: bool) -> u16
     ensures { result ≡ defined_after check defined ins is_return }
 {
-    if is_checked(check, ins) {
-        let set = defined_by(defined_before(defined, ins), ins);
-        if is_return {
-            return set;
-        }
-        return set | ins.defs;
+    if !is_checked(check, ins) {
+        return defined;
     }
-    defined
+    let set = defined_by(defined_before(defined, ins), ins);
+    if is_return { set } else { set | ins.defs }
 }

@@ -1,19 +1,20 @@
 // `new` and `into_function`: the walk before its first step, and the record at its end.
-ghost use Rattle.std.specs.Prelude.{◌≡◌, max};
+ghost use Rattle.std.specs.Prelude.{◌≡◌};
 ghost use Rattle.walk.specs.IntoFunction.{begun, end_address, start_of, into_function};
 
-use crate::{Answer, Counts, KnownEnd, Machines, Options, Progress, Record, Walk};
+use crate::{Answer, Counts, Machines, Options, Progress, Record, Walk};
 use analysis::function_branch::FunctionBranchState;
 use analysis::illegal_code::IllegalCodeState;
 use analysis::inline_table::InlineTableState;
 use analysis::jump_table::JumpTableStateArm;
-use base::refusal::NO_EPILOGUE;
+use base::refusal::Refusal;
 use predicates::Previous;
 use registers::Registers;
 
 // r0 to r3 may be arguments, r10 and r11 are not always saved, r12 is scratch; SP, LR and PC.
 const DEFINED: u16 = 0b1111_1100_0000_1111;
 
+#[tactic(auto, unfolding(crate::specs::IntoFunction::begun))]
 pub fn new(start: u32, counts: Counts) -> Walk
     ensures { result ≡ begun start counts }
 {
@@ -25,11 +26,7 @@ pub fn new(start: u32, counts: Counts) -> Walk
             last_pool_address: 0,
             jump_table_end_address: 0,
             defined_registers: DEFINED,
-            previous: Previous {
-                is_branch: false,
-                is_conditional: false,
-                is_adds_four: false,
-            },
+            previous: Previous::default(),
         },
         machines: Machines {
             jump_table: JumpTableStateArm::CmpReg,
@@ -38,6 +35,7 @@ pub fn new(start: u32, counts: Counts) -> Walk
             illegal_code: IllegalCodeState::Start,
         },
         registers: Registers {
+            // Written out: a clause knows too little of an array's default.
             values: [0; 16],
             sources: [0; 16],
         },
@@ -47,34 +45,22 @@ pub fn new(start: u32, counts: Counts) -> Walk
 }
 
 // The known end, or the larger of the last instruction's end and the last pool's, which may leave 32 bits in a state that a host made up.
-fn end_address(known_end: KnownEnd, last_instruction_end: u32, last_pool_address: u32) -> u64
+fn end_address(known_end: Option<u32>, last_instruction_end: u32, last_pool_address: u32) -> u64
     ensures { result ≡ end_address known_end last_instruction_end last_pool_address }
 {
     match known_end {
-        KnownEnd::At(end) => end as u64,
-        KnownEnd::Nothing => {
-            if last_pool_address == 0 {
-                return last_instruction_end as u64;
-            }
-            larger(last_instruction_end as u64, last_pool_address as u64 + 4)
-        }
+        Some(end) => end as u64,
+        None if last_pool_address == 0 => last_instruction_end as u64,
+        None => (last_instruction_end as u64).max(last_pool_address as u64 + 4),
     }
-}
-
-fn larger(a: u64, b: u64) -> u64
-    ensures { result ≡ max a b }
-{
-    if a < b { b } else { a }
 }
 
 // The first pool where that lies below the start.
+#[tactic(auto, unfolding(crate::specs::IntoFunction::start_of))]
 fn start_address(start: u32, first_pool: u32) -> u32
     ensures { result ≡ start_of start first_pool }
 {
-    if first_pool == 0 {
-        return start;
-    }
-    if first_pool < start {
+    if first_pool != 0 && first_pool < start {
         first_pool
     } else {
         start
@@ -82,6 +68,7 @@ fn start_address(start: u32, first_pool: u32) -> u32
 }
 
 // The record, unless it ends past the module.
+#[tactic(auto, unfolding(crate::specs::IntoFunction::into_function))]
 pub fn into_function(
     o: Options,
     start: u32,
@@ -91,11 +78,10 @@ pub fn into_function(
 ) -> Answer
     ensures { result ≡ into_function o start last_instruction_end last_pool_address first_pool }
 {
-    let known_end = o.known_end;
-    let end = end_address(known_end, last_instruction_end, last_pool_address);
-    if (o.module_end as u64) < end {
+    let end = end_address(o.known_end, last_instruction_end, last_pool_address);
+    if end > o.module_end as u64 {
         return Answer::Refused {
-            number: NO_EPILOGUE,
+            refusal: Refusal::NoEpilogue,
             address: 0,
             register: 0,
         };

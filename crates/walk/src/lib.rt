@@ -11,14 +11,9 @@ use analysis::function_branch::FunctionBranchState;
 use analysis::illegal_code::IllegalCodeState;
 use analysis::inline_table::InlineTableState;
 use analysis::jump_table::JumpTableStateArm;
+use base::refusal::Refusal;
 use predicates::Previous;
 use registers::Registers;
-
-#[derive(Clone, Copy)]
-pub enum KnownEnd {
-    Nothing,
-    At(u32),
-}
 
 // The host's choices for a walk.
 #[derive(Clone, Copy)]
@@ -26,7 +21,7 @@ pub struct Options {
     pub base: u32,
     pub module_start: u32,
     pub module_end: u32,
-    pub known_end: KnownEnd,
+    pub known_end: Option<u32>,
     pub check: bool,
 }
 
@@ -51,7 +46,7 @@ pub struct Machines {
 }
 
 // The entries of each lent list.
-#[derive(Clone, Copy)]
+#[derive(Clone, Copy, Default)]
 pub struct Counts {
     pub labels: usize,
     pub pools: usize,
@@ -60,7 +55,7 @@ pub struct Counts {
     pub calls: usize,
 }
 
-#[derive(Clone, Copy)]
+#[derive(Clone, Copy, PartialEq, Eq)]
 pub struct Record {
     pub start: u32,
     pub end: u32,
@@ -68,13 +63,13 @@ pub struct Record {
     pub last_instruction_end: u32,
 }
 
-// What a call answers. A refusal has its number in document 01; `register` is the undefined one at 11, and 0 elsewhere.
-#[derive(Clone, Copy)]
+// What a call answers: a walk that goes on has neither a record nor a refusal, so there are three. `register` is the undefined one at `UndefinedRegister`, and 0 elsewhere.
+#[derive(Clone, Copy, PartialEq, Eq)]
 pub enum Answer {
     Going,
     Accepted(Record),
     Refused {
-        number: u8,
+        refusal: Refusal,
         address: u32,
         register: u8,
     },

@@ -13,12 +13,12 @@
 
 mod changes;
 mod listing;
+mod lists;
 mod request;
 
 ghost use Rattle.std.specs.Prelude.{◌≤◌, ◌<◌};
 
-use changes::Turn;
-use listing::is_going;
+use lists::Lists;
 use request::Request;
 use std::io::{self, Stdin, Stdout, Write};
 use stepper::Answered;
@@ -29,260 +29,135 @@ const TURNS: usize = 0x1_0100;
 
 const MOST_REQUESTS: usize = 100_000_000;
 
+// What a walk is over.
+#[derive(Clone, Copy)]
+struct Module<'a> {
+    request: Request,
+    code: &'a [u8],
+    starts: &'a [u32],
+}
+
 // A begin, written where it is refused.
-fn begin(
-    output: &mut Stdout,
-    r: Request,
-    code: &[u8],
-    starts: &[u32],
-    labels: &mut [u32],
-    pools: &mut [u32],
-    jump_tables: &mut [u32],
-    inline_tables: &mut [u32],
-    calls: &mut [u32],
-) -> io::Result<Walk> {
-    let o = r.options;
+fn begin(output: &mut Stdout, m: Module, lists: &mut Lists) -> io::Result<Walk> {
+    let r = m.request;
     let begun = stepper::begin(
-        o,
+        r.options,
         r.start,
-        code,
-        starts,
-        labels,
-        pools,
-        jump_tables,
-        inline_tables,
-        calls,
-        request::some_counts(),
+        m.code,
+        m.starts,
+        lists.labels,
+        lists.pools,
+        lists.jump_tables,
+        lists.inline_tables,
+        lists.calls,
+        request::SOME_COUNTS,
     );
-    listing::put_begin(
-        output,
-        r.is_full,
-        begun,
-        labels,
-        pools,
-        jump_tables,
-        inline_tables,
-        calls,
-    )?;
+    listing::put_begin(output, r.is_full, begun, lists)?;
     Ok(begun.walk)
 }
 
 // A step, written unless it repeats the end that `said` is.
 fn take_step(
     output: &mut Stdout,
-    r: Request,
+    m: Module,
     said: Answer,
     w: Walk,
-    code: &[u8],
-    starts: &[u32],
-    labels: &mut [u32],
-    pools: &mut [u32],
-    jump_tables: &mut [u32],
-    inline_tables: &mut [u32],
-    calls: &mut [u32],
+    lists: &mut Lists,
 ) -> io::Result<Answered> {
-    let o = r.options;
+    let r = m.request;
     let next = stepper::step(
-        o,
+        r.options,
         w,
-        code,
-        starts,
-        labels,
-        pools,
-        jump_tables,
-        inline_tables,
-        calls,
+        m.code,
+        m.starts,
+        lists.labels,
+        lists.pools,
+        lists.jump_tables,
+        lists.inline_tables,
+        lists.calls,
     );
-    listing::put_step(
-        output,
-        r.is_full,
-        said,
-        w.progress.address,
-        next,
-        labels,
-        pools,
-        jump_tables,
-        inline_tables,
-        calls,
-    )?;
+    listing::put_step(output, r.is_full, said, w.progress.address, next, lists)?;
     Ok(next)
 }
 
-fn take_turn(
-    output: &mut Stdout,
-    r: Request,
-    turn: Turn,
-    said: Answer,
-    w: Walk,
-    code: &[u8],
-    starts: &[u32],
-    labels: &mut [u32],
-    pools: &mut [u32],
-    jump_tables: &mut [u32],
-    inline_tables: &mut [u32],
-    calls: &mut [u32],
-) -> io::Result<Answered> {
-    changes::set_places(turn, labels, pools, jump_tables, inline_tables, calls);
-    let ready = changes::prepared(output, w, turn)?;
-    take_step(
-        output,
-        r,
-        said,
-        ready,
-        code,
-        starts,
-        labels,
-        pools,
-        jump_tables,
-        inline_tables,
-        calls,
-    )
-}
-
-// The next turn: the planned ones, then steps until one does not go on, then one step more.
-fn following(planned: usize, turn: usize, said: Answer) -> usize
-    requires { turn < 0x1_0100 }
-    ensures { (turn < result) × (result ≤ 0x1_0100) }
-{
-    if planned <= turn {
-        if !is_going(said) {
-            return TURNS;
-        }
-    }
-    turn + 1
-}
-
-// What the steps after the planned ones have come to.
-fn come_to(planned: usize, turn: usize, said: Answer, answer: Answer) -> Answer {
-    if planned <= turn {
-        if is_going(said) {
-            return answer;
-        }
-    }
-    said
-}
-
-fn run(
+// The turns, from the planned ones to a step after the end; what the steps after the planned ones have come to.
+fn take_turns(
     output: &mut Stdout,
     body: &[u8],
-    r: Request,
-    code: &[u8],
-    starts: &[u32],
-    labels: &mut [u32],
-    pools: &mut [u32],
-    jump_tables: &mut [u32],
-    inline_tables: &mut [u32],
-    calls: &mut [u32],
-) -> io::Result<()>
-    requires { (r.script ≤ 0x1000) × (r.turns ≤ 64) }
+    m: Module,
+    begun: Walk,
+    lists: &mut Lists,
+) -> io::Result<(Walk, Answer)>
+    requires { (m.request.script ≤ 0x1000) × (m.request.turns ≤ 64) }
 {
-    let mut w = begin(
-        output,
-        r,
-        code,
-        starts,
-        labels,
-        pools,
-        jump_tables,
-        inline_tables,
-        calls,
-    )?;
+    let r = m.request;
+    let mut w = begun;
     let mut said = Answer::Going;
-    let mut turn = 0;
-    while turn < TURNS {
-        let next = take_turn(
-            output,
-            r,
-            changes::turn_at(body, r.script, r.turns, turn),
-            said,
-            w,
-            code,
-            starts,
-            labels,
-            pools,
-            jump_tables,
-            inline_tables,
-            calls,
-        )?;
+    for turn in 0..TURNS {
+        let planned = changes::turn_at(body, r.script, r.turns, turn);
+        changes::set_places(planned, lists);
+        w = changes::prepared(output, w, planned)?;
+        let next = take_step(output, m, said, w, lists)?;
         w = next.walk;
-        let after = following(r.turns, turn, said);
-        let answer = next.answer;
-        said = come_to(r.turns, turn, said, answer);
-        turn = after;
+        if turn < r.turns {
+            continue;
+        }
+        if said != Answer::Going {
+            break;
+        }
+        said = next.answer;
     }
+    Ok((w, said))
+}
+
+fn run(output: &mut Stdout, body: &[u8], m: Module, lists: &mut Lists) -> io::Result<()>
+    requires { (m.request.script ≤ 0x1000) × (m.request.turns ≤ 64) }
+{
+    let begun = begin(output, m, lists)?;
+    let (w, said) = take_turns(output, body, m, begun, lists)?;
     listing::put_end(output, stepper::finish(w), said)
 }
 
-// The lists are lent as far as the request says.
-fn run_lent(
-    output: &mut Stdout,
-    body: &[u8],
-    r: Request,
-    code: &[u8],
-    starts: &[u32],
-    labels: &mut [u32],
-    pools: &mut [u32],
-    jump_tables: &mut [u32],
-    inline_tables: &mut [u32],
-    calls: &mut [u32],
-) -> io::Result<()>
-    requires { (r.script ≤ 0x1000) × (r.turns ≤ 64) }
-{
-    let lengths = r.lengths;
-    let a = request::within(lengths.labels, labels);
-    let b = request::within(lengths.pools, pools);
-    let c = request::within(lengths.jump_tables, jump_tables);
-    let d = request::within(lengths.inline_tables, inline_tables);
-    let e = request::within(lengths.calls, calls);
-    run(
-        output,
-        body,
-        r,
-        code,
-        starts,
-        &mut labels[..a],
-        &mut pools[..b],
-        &mut jump_tables[..c],
-        &mut inline_tables[..d],
-        &mut calls[..e],
-    )
+// As much of a list as the request says.
+fn lent(list: &mut [u32], length: usize) -> &mut [u32] {
+    let end = length.min(list.len());
+    &mut list[..end]
 }
 
 // The lists hold anything at first.
-fn lend(output: &mut Stdout, body: &[u8], r: Request, code: &[u8], starts: &[u32]) -> io::Result<()>
-    requires { (r.script ≤ 0x1000) × (r.turns ≤ 64) }
+fn lend(output: &mut Stdout, body: &[u8], m: Module) -> io::Result<()>
+    requires { (m.request.script ≤ 0x1000) × (m.request.turns ≤ 64) }
 {
+    let lengths = m.request.lengths;
     let mut labels = [7u32; 1024];
     let mut pools = [7u32; 3072];
     let mut jump_tables = [7u32; 128];
     let mut inline_tables = [7u32; 128];
     let mut calls = [7u32; 4096];
-    run_lent(
-        output,
-        body,
-        r,
-        code,
-        starts,
-        &mut labels[..],
-        &mut pools[..],
-        &mut jump_tables[..],
-        &mut inline_tables[..],
-        &mut calls[..],
-    )
+    let mut lists = Lists {
+        labels: lent(&mut labels, lengths.labels),
+        pools: lent(&mut pools, lengths.pools),
+        jump_tables: lent(&mut jump_tables, lengths.jump_tables),
+        inline_tables: lent(&mut inline_tables, lengths.inline_tables),
+        calls: lent(&mut calls, lengths.calls),
+    };
+    run(output, body, m, &mut lists)
 }
 
 fn serve(output: &mut Stdout, body: &[u8]) -> io::Result<()> {
-    let r = request::read(body);
-    let starts = request::read_starts(body, r.starts);
-    let n = request::within(r.starts, &starts);
-    let from = request::past(r.code, body);
-    lend(output, body, r, &body[from..], &starts[..n])
-}
-
-fn read_body(from: &mut Stdin, body: &mut [u8], length: usize) -> io::Result<()> {
-    let n = request::past(length, body);
-    streams::read_full(from, &mut body[..n])?;
-    Ok(())
+    let request = request::read(body);
+    let starts = request::read_starts(body);
+    let code = &body[request.code.min(body.len())..];
+    let starts = &starts[..request.starts];
+    lend(
+        output,
+        body,
+        Module {
+            request,
+            code,
+            starts,
+        },
+    )
 }
 
 fn serve_into(
@@ -292,12 +167,13 @@ fn serve_into(
     length: usize,
     is_first: bool,
 ) -> io::Result<()> {
-    read_body(from, body, length)?;
-    let n = request::past(length, body);
+    let n = length.min(body.len());
+    let body = &mut body[..n];
+    streams::read_full(from, body)?;
     if !is_first {
         output.write_all(b"\n")?;
     }
-    serve(output, &body[..n])
+    serve(output, body)
 }
 
 // The buffer is lent by a function that does nothing else, since a proof about so long an array is slow.
@@ -317,7 +193,7 @@ fn serve_next(from: &mut Stdin, output: &mut Stdout, is_first: bool) -> io::Resu
     if streams::read_full(from, &mut head)? < 4 {
         return Ok(false);
     }
-    let length = request::number(&head, 0) as usize;
+    let length = u32::from_be_bytes(head) as usize;
     serve_body(from, output, length, is_first)?;
     Ok(true)
 }

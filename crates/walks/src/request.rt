@@ -1,8 +1,8 @@
 // What a request says.
-ghost use Rattle.std.specs.Prelude.{◌≡◌, ◌≤◌, length, take};
+ghost use Rattle.std.specs.Prelude.{◌≤◌};
 
 use context::{CALL_ROW, LABEL_ROW, POOL_ROW, TABLE_ROW};
-use walk::{Counts, KnownEnd, Options};
+use walk::{Counts, Options};
 
 const MOST_STARTS: usize = 64;
 
@@ -24,67 +24,23 @@ pub struct Request {
     pub code: usize,
 }
 
-fn wide(byte: u8) -> u32
-    ensures { result ≤ 255 }
-{
-    byte as u32
-}
-
-// What lies past the end reads as 0.
-fn byte(bytes: &[u8], at: usize) -> u32
-    ensures { result ≤ 255 }
-{
-    if at < bytes.len() {
-        return wide(bytes[at]);
-    }
-    0
+// What lies past the end reads as 0, here and below.
+fn byte(bytes: &[u8], at: usize) -> u8 {
+    bytes.get(at).copied().unwrap_or(0)
 }
 
 // Four bytes, big-endian.
-pub fn number(bytes: &[u8], at: usize) -> u32
-    requires { at ≤ 0x20_0000 }
-{
-    byte(bytes, at) * 0x100_0000
-        + byte(bytes, at + 1) * 0x1_0000
-        + byte(bytes, at + 2) * 0x100
-        + byte(bytes, at + 3)
+pub fn number(bytes: &[u8], at: usize) -> u32 {
+    let mut four = [0; 4];
+    for (to, from) in four.iter_mut().zip(bytes.iter().skip(at)) {
+        *to = *from;
+    }
+    u32::from_be_bytes(four)
 }
 
-fn least(value: u32, most: usize) -> usize
-    ensures { result ≤ most }
-{
-    let wanted = value as usize;
-    if wanted < most {
-        return wanted;
-    }
-    most
-}
-
-// A place in a list, or its end. The second fact follows from the first; who lends a part of the list needs both.
-pub fn within(at: usize, list: &[u32]) -> usize
-    ensures { (result ≤ length list.now) × (length (take result list.now) ≡ result) }
-{
-    if at < list.len() {
-        return at;
-    }
-    list.len()
-}
-
-// The same of bytes.
-pub fn past(at: usize, bytes: &[u8]) -> usize
-    ensures { (result ≤ length bytes.now) × (length (take result bytes.now) ≡ result) }
-{
-    if at < bytes.len() {
-        return at;
-    }
-    bytes.len()
-}
-
-fn known(end: u32) -> KnownEnd {
-    if end == 0 {
-        return KnownEnd::Nothing;
-    }
-    KnownEnd::At(end)
+// 0 is no known end.
+fn known(end: u32) -> Option<u32> {
+    (end != 0).then_some(end)
 }
 
 fn options(body: &[u8]) -> Options {
@@ -98,15 +54,13 @@ fn options(body: &[u8]) -> Options {
 }
 
 // All that there is of each list.
-fn most_lengths() -> Counts {
-    Counts {
-        labels: 1024 * LABEL_ROW,
-        pools: 1024 * POOL_ROW,
-        jump_tables: 64 * TABLE_ROW,
-        inline_tables: 64 * TABLE_ROW,
-        calls: 1024 * CALL_ROW,
-    }
-}
+const MOST_LENGTHS: Counts = Counts {
+    labels: 1024 * LABEL_ROW,
+    pools: 1024 * POOL_ROW,
+    jump_tables: 64 * TABLE_ROW,
+    inline_tables: 64 * TABLE_ROW,
+    calls: 1024 * CALL_ROW,
+};
 
 // So many rows of each list, and some numbers more.
 fn lengths_at(body: &[u8], at: usize) -> Counts
@@ -132,7 +86,7 @@ fn plain(body: &[u8], starts: usize, code: usize) -> Request
         options: options(body),
         start: number(body, 13),
         starts,
-        lengths: most_lengths(),
+        lengths: MOST_LENGTHS,
         turns: 0,
         script: code,
         code,
@@ -146,12 +100,12 @@ pub fn read(body: &[u8]) -> Request
     if version < 2 {
         return plain(body, 0, 22);
     }
-    let starts = least(number(body, 22), MOST_STARTS);
+    let starts = MOST_STARTS.min(number(body, 22) as usize);
     let at = 26 + 4 * starts;
     if version == 2 {
         return plain(body, starts, at);
     }
-    let turns = least(number(body, at + 24), MOST_TURNS);
+    let turns = MOST_TURNS.min(number(body, at + 24) as usize);
     let script = at + 28;
     Request {
         is_full: true,
@@ -165,23 +119,19 @@ pub fn read(body: &[u8]) -> Request
     }
 }
 
-pub fn read_starts(body: &[u8], count: usize) -> [u32; 64]
-    requires { count ≤ 64 }
-{
-    let mut starts = [0u32; 64];
-    for i in 0..count {
-        starts[i] = number(body, 26 + 4 * i);
+pub fn read_starts(body: &[u8]) -> [u32; MOST_STARTS] {
+    let mut starts = [0u32; MOST_STARTS];
+    for (i, start) in starts.iter_mut().enumerate() {
+        *start = number(body, 26 + 4 * i);
     }
     starts
 }
 
 // Counts of lists that hold anything.
-pub fn some_counts() -> Counts {
-    Counts {
-        labels: 3,
-        pools: 3,
-        jump_tables: 3,
-        inline_tables: 3,
-        calls: 3,
-    }
-}
+pub const SOME_COUNTS: Counts = Counts {
+    labels: 3,
+    pools: 3,
+    jump_tables: 3,
+    inline_tables: 3,
+    calls: 3,
+};

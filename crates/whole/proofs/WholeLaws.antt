@@ -1,6 +1,8 @@
 -- The whole walk by its turns: one more than the code has bytes, from no entries.
 -- Assumes nothing.
 use Rattle.base.proofs.Prelude.{◌∙◌, sym, refl, ◌≡◌, ap, subst⁻¹, true, false, Bool, List, ◌≤◌, ℕ, ◌+◌, suc, arith, eqb, length, eqb-true}
+use Rattle.std.specs.Prelude.{Result, Ok, Err}
+use Rattle.base.specs.declared.refusal.Refusal.{Refusal}
 use Rattle.base.specs.Choice.{pick}
 use Rattle.context.specs.Lists.{Lists, AllHeld, written, zeroed, given_by}
 use Rattle.context.specs.Turn.{Turned, no_maps, counts_of}
@@ -11,10 +13,10 @@ use Rattle.invariants.proofs.EndingLaws.{has_ended}
 use Rattle.invariants.proofs.StepLaws.{steps-turn}
 use Rattle.rows.specs.Map.{Held, map_in}
 use Rattle.stepper.specs.declared.Answered.{Answered}
-use Rattle.stepper.specs.Stepper.{After, Called, is_going, refused, begin, turned, number_at, finish}
+use Rattle.stepper.specs.Stepper.{After, Called, is_going, begin, begin_where, turned, check_at, finish}
 use Rattle.stepper.proofs.Laws.{called-turned, turn-may}
 use Rattle.turn.specs.Turning.{Turns}
-use Rattle.validity.specs.Validity.{high, begin_number}
+use Rattle.validity.specs.Validity.{high, begin_check}
 use Rattle.walk.specs.declared.Answer.TheVariants.{Going}
 use Rattle.walk.specs.declared.Counts.{Counts}
 use Rattle.walk.specs.declared.Options.{Options}
@@ -58,23 +60,20 @@ module _ (o : Options) (start : ℕ) (code starts : List ℕ) (n : Counts) (l : 
 
   module _ (on : is_going opened.answer ≡ true) where
     -- a begin that goes on has passed
-    passed-begin : begin_number o start (length code) starts ≡ 0
+    passed-begin : begin_check o start (length code) starts ≡ Ok tt
     unfolding begin
-    passed-begin = step (eqb (begin_number o start (length code) starts) 0) refl on
+    passed-begin = step (begin_check o start (length code) starts) refl on
       where
-        stopped : After
-        stopped = record { walk = begun start n; lists = l; answer = refused (begin_number o start (length code) starts) }
-
-        step : (b : Bool) → eqb (begin_number o start (length code) starts) 0 ≡ b → is_going (pick b fresh stopped).answer ≡ true
-            → begin_number o start (length code) starts ≡ 0
-        step true h k = eqb-true _ _ h
-        step false h k = absurd (let z : ◌≡◌ {A = ℕ} 0 1 = cc in omega arith)
+        step : (b : Result (Unit {0}) Refusal) → begin_check o start (length code) starts ≡ b → is_going (begin_where start n l b).answer ≡ true
+            → begin_check o start (length code) starts ≡ Ok tt
+        step (Ok t) h k = h
+        step (Err refusal) h k = absurd (let z : ◌≡◌ {A = ℕ} 0 1 = cc in omega arith)
 
     opened-fresh : opened ≡ fresh
     unfolding begin
     opened-fresh = rw passed-begin
 
-    fresh-number : number_at o code starts fresh.walk fresh.lists ≡ 0
+    fresh-number : check_at o code starts fresh.walk fresh.lists ≡ Ok tt
     fresh-number =
         passed-number o code starts fresh.walk fresh.lists
         (begun-passed o start code starts l (number-begins o start code starts passed-begin))

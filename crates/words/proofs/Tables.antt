@@ -1,6 +1,6 @@
 -- The rules of the two tables, each proved at every row by one test that is computed.
 -- Assumes nothing.
-use Rattle.base.proofs.Prelude.{sym, refl, ◌≡◌, subst, false, true, Bool, List, [], ◌∷◌, ◌++◌, ⊎_elim, ◌≤◌, ℕ, ◌+◌, ◌<◌, ◌-◌, suc, ◌*◌, zero, zero-le}
+use Rattle.base.proofs.Prelude.{sym, refl, ◌≡◌, subst, false, true, Bool, List, [], ◌∷◌, map, ⊎_elim, ◌≤◌, ℕ, ◌+◌, ◌<◌, ◌-◌, suc, ◌*◌, zero, zero-le}
 use Rattle.base.proofs.Prelude.{arith, le_of_suc-le-suc, eq-or-lt_of_le, eqb, leb, T, eqb→eq, length, get_or, drop, take}
 use Prim.Native.String.{String}
 use lib.Dec.{leb→le}
@@ -96,23 +96,22 @@ name-part k n h e =
 
 -- ---- the conditions
 
-abbrev joined : List String → List ℕ
-joined [] = []
-joined (s ∷ ss) = bytes s ++ joined ss
-
 -- the source's table
-unfoldable pub letters : List ℕ
+unfoldable pub letters : List (List ℕ)
 unfolding bytes conditions
-letters = joined conditions
+letters = map bytes conditions
 
 pub condition-short : (c : ℕ) → length (cond_of c) ≤ 2
 unfolding bytes conditions cond_of
 condition-short c = entry-short 2 conditions tt c
 
--- the part of the table that is written for a condition
-pub condition-part : (c : ℕ) → c < 16 → take (c * 2 + 2 - c * 2) (drop (c * 2) letters) ≡ cond_of c
-unfolding letters bytes entry conditions cond_of
-condition-part c h =
-    let two : c * 2 + 2 - c * 2 ≡ 2 = omega arith in
-    rw two
-    (same-eq (take 2 (drop (c * 2) letters)) (cond_of c) (at (λ c. same (take 2 (drop (c * 2) letters)) (cond_of c)) 16 tt c h))
+entry-at : (ss : List String) (k : ℕ) → get_or (map bytes ss) k [] ≡ entry ss k
+unfolding entry
+entry-at [] k = refl
+entry-at (s ∷ ss) zero = refl
+entry-at (s ∷ ss) (suc k) = entry-at ss k
+
+-- the table's row at a condition
+pub condition-row : (c : ℕ) → get_or letters c [] ≡ cond_of c
+unfolding letters cond_of
+condition-row c = entry-at conditions c

@@ -1,42 +1,26 @@
 -- The laws of the lines and of the answer.
 -- Assumes nothing.
-use Rattle.base.proofs.Prelude.{◌∙◌, sym, refl, ◌≡◌, ap, false, true, Bool, List, [], ◌∷◌, ◌++◌, ◌≤◌, ℕ, ◌+◌, ◌<◌, suc, ◌*◌, zero, ◌^◌, ◌/◌, ◌%◌}
+use Rattle.base.proofs.Prelude.{refl, ◌≡◌, false, true, Bool, List, [], ◌∷◌, ◌++◌, ◌≤◌, ℕ, ◌+◌, ◌<◌, suc, ◌*◌, zero, ◌^◌, ◌/◌, ◌%◌}
 use Rattle.base.proofs.Prelude.{zero-le, arith, add-one, eqb, leb, length, length-append, eq-eqb, ne_eqb, le-leb, lt-leb, leb-true}
-use native.Mathlib.Nat.{lt_of_not-le}
-use lib.ListN.{get_or-eq_default}
 use Rattle.base.specs.Choice.{pick}
+use Rattle.text.specs.declared.writer.Writer.{Writer}
 use Rattle.text.specs.Put.{put, Written}
+use Rattle.text.specs.Writers.{Wrote}
 use Rattle.text.proofs.Hex.{hex-length}
 use Rattle.text.proofs.Put.{put-length}
 use Rattle.classes.specs.Class.{class_no}
 use Rattle.arm.specs.Naming.{class_of}
 use Rattle.arm.specs.Ins.{decode_of}
 use Rattle.classes.specs.declared.Class.{Class}
-use Rattle.classes.specs.declared.Class.TheVariants.{Illegal}
 use Rattle.arm.specs.declared.Ins.{Ins}
-use Rattle.classes.proofs.Numbers.{class_at, tag-no, class-tag}
-use Rattle.words.specs.declared.Answer.{Answer}
-use Rattle.words.specs.declared.Answer.TheVariants.{Text, NoRoom}
+use Rattle.std.specs.Prelude.{Result, Ok, Err}
+use Rattle.words.specs.declared.NoRoom.{NoRoom}
 use Rattle.words.specs.Names.{bytes, entry, names, name_of, name_no, conditions, cond_of}
 use Rattle.words.specs.Lines.{field, head_of, tail_of, class_line_of, ins_line_of, line_of, line_as, lines_of, word_at}
-use Rattle.words.specs.Answer.{accepted, refusal, text_as, text_of, class_text_of, room_for, Answered}
+use Rattle.words.specs.Answer.{accepted, refusal, text_as, text_of, class_text_of, room_for, no_room, Answered}
 use Rattle.words.proofs.Tables.{name-short, condition-short}
 
 -- ---- the parts of a line
-
-past-last : (n : ℕ) → 74 ≤ n → class_at n ≡ Illegal
-past-last n h = rw get_or-eq_default
-
--- a class is the one at its number, and past 73 every number stands for the last class, which has the number 73
-pub class-below : (k : Class) → class_no k < 74
-unfolding class_no
-class-below k =
-    lt_of_not-le
-    (λ past.
-    let there : class_at (class_no k) ≡ k = ap class_at (sym (tag-no k)) ∙ class-tag k in
-    let none : class_at (class_no k) ≡ Illegal = past-last (class_no k) past in
-    let last : class_no k ≡ 73 = ap class_no (sym there ∙ none) in
-    omega arith)
 
 pub condition-is : (w address : ℕ) → (decode_of w address).cond ≡ w / 2 ^ 28
 unfolding decode_of
@@ -122,15 +106,20 @@ module _ (input : List ℕ) (taken : accepted input ≡ true) where
 
 -- ---- the answer
 
-pub answered-none : (text : List ℕ) (room : ℕ) (out : List ℕ) → length out < room → Answered text room out NoRoom out
+pub answered-none : (text : List ℕ) (room : ℕ) (out : List ℕ) → length out < room → Answered text room out (Err no_room) out
 answered-none text room out h = record { answer = rw (lt-leb room (length out) h); buffer = rw (lt-leb room (length out) h) }
 
-pub answered-text : {text out after : List ℕ} {r : ℕ} (room : ℕ) → room ≤ length out → Written out 0 text r after → Answered text room out (Text r) after
+pub answered-text : {text out after : List ℕ} {r : ℕ} (room : ℕ) → room ≤ length out → Written out 0 text r after → Answered text room out (Ok r) after
 answered-text {text} {out} {r = r} room h w =
     let next : r ≡ length text = omega (arith, w.next) in
     record { answer = rw (le-leb room (length out) h, next); buffer = rw (le-leb room (length out) h) w.text }
 
-text-fits : (full : Bool) (input : List ℕ) → length (text_as full input) ≤ room_for input
+-- by a writer that began at the buffer's start
+pub answered-wrote : {text out after : List ℕ} {v w : Writer} (room : ℕ) → room ≤ length out
+    → v.at ≡ 0 → v.out.now ≡ out → Wrote v w text → after ≡ w.out.now → Answered text room out (Ok w.at) after
+answered-wrote room h start unwritten w left = answered-text room h (rw (left, ← start, ← unwritten) w.text)
+
+pub text-fits : (full : Bool) (input : List ℕ) → length (text_as full input) ≤ room_for input
 unfolding text_as room_for refusal bytes
 text-fits full input = fits (accepted input)
   where
@@ -138,19 +127,11 @@ text-fits full input = fits (accepted input)
     fits true = lines-length full input (length input / 4)
     fits false = omega arith
 
-pub decode-fits : (input : List ℕ) → length (text_of input) ≤ room_for input
-unfolding text_of
-decode-fits input = text-fits true input
-
-pub class-fits : (input : List ℕ) → length (class_text_of input) ≤ room_for input
-unfolding class_text_of
-class-fits input = text-fits false input
-
 -- an answer of n bytes lies within the buffer
-pub within : {text before after : List ℕ} {room n : ℕ} {r : Answer} → Answered text room before r after → r ≡ Text n → length text ≤ room → n ≤ length after
+pub within : {text before after : List ℕ} {room n : ℕ} {r : Result ℕ NoRoom} → Answered text room before r after → r ≡ Ok n → length text ≤ room → n ≤ length after
 within {text} {before} {after} {room} {n} {r} a is fits = cases (leb room (length before)) refl a.answer a.buffer
   where
-    cases : (t : Bool) → leb room (length before) ≡ t → r ≡ pick t (Text (length text)) NoRoom → after ≡ pick t (put before 0 text) before → n ≤ length after
+    cases : (t : Bool) → leb room (length before) ≡ t → r ≡ pick t (Ok (length text)) (Err no_room) → after ≡ pick t (put before 0 text) before → n ≤ length after
     cases true e p q =
         let enough : room ≤ length before = leb-true room (length before) e in
         let same : n ≡ length text = cc in

@@ -1,10 +1,9 @@
 -- The text of an input, and what its writer answers and leaves in the buffer.
 -- Assumes nothing.
-use Rattle.std.specs.Prelude.{ℕ, ◌*◌, ◌/◌, ◌%◌, ◌≡◌, Bool, true, false, List, eqb, leb, length}
+use Rattle.std.specs.Prelude.{ℕ, ◌*◌, ◌/◌, ◌%◌, ◌≡◌, Bool, true, false, List, Result, Ok, Err, eqb, leb, length}
 use Rattle.base.specs.Choice.{pick}
 use Rattle.text.specs.Put.{put}
-use Rattle.words.specs.declared.Answer.{Answer}
-use Rattle.words.specs.declared.Answer.TheVariants.{Text, NoRoom}
+use Rattle.words.specs.declared.NoRoom.{NoRoom}
 use Rattle.words.specs.Names.{bytes}
 use Rattle.words.specs.Lines.{line_as, lines_of}
 
@@ -30,8 +29,12 @@ class_text_of input = text_as false input
 unfoldable pub room_for : List ℕ → ℕ
 room_for input = pick (accepted input) (32 * (length input / 4)) 20
 
+-- the answer where the buffer is too short
+abbrev pub no_room : NoRoom
+no_room = record {}
+
 -- with that room the answer is the text's length, and the text stands at the buffer's start, where all after it is as it was;
 -- with less the buffer is left alone
-pub record Answered (text : List ℕ) (room : ℕ) (before : List ℕ) (r : Answer) (after : List ℕ) : Type 0 where
-  pub answer : r ≡ pick (leb room (length before)) (Text (length text)) NoRoom
+pub record Answered (text : List ℕ) (room : ℕ) (before : List ℕ) (r : Result ℕ NoRoom) (after : List ℕ) : Type 0 where
+  pub answer : r ≡ pick (leb room (length before)) (Ok (length text)) (Err no_room)
   pub buffer : after ≡ pick (leb room (length before)) (put before 0 text) before

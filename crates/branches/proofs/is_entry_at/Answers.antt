@@ -2,10 +2,10 @@
 use Rattle.context.specs.Blocks.{is_entry_at}
 use Rattle.branches.proofs.is_entry_at.Goals as goal
 
-pub returns-in-Found : goal.returns-in-Found
+pub returns-in-Some : goal.returns-in-Some
 unfolding is_entry_at
-returns-in-Found c = rw (← c.word_from.ensures, c.in-Found.is) (c.is_entry_word.ensures c.args.address)
+returns-in-Some c = rw (← c.word_from.ensures, c.in-Some.is) (c.is_entry_word.ensures c.args.address)
 
-pub returns-in-Missing : goal.returns-in-Missing
+pub returns-in-None : goal.returns-in-None
 unfolding is_entry_at
-returns-in-Missing c = rw (← c.word_from.ensures, c.in-Missing.is)
+returns-in-None c = rw (← c.word_from.ensures, c.in-None.is)

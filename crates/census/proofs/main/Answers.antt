@@ -6,7 +6,7 @@ use Rattle.words.proofs.Texts.{within}
 use Rattle.census.proofs.main.Goals as goal
 
 pub slice_bounds-out-end : goal.slice_bounds-out-end
-slice_bounds-out-end c = within c.census_text-answer.ensures c.in-Text.is text-fits
+slice_bounds-out-end c = within c.census_text.ensures c.in-Ok.is text-fits
 
 pub slice_bounds-write_all-end : goal.slice_bounds-write_all-end
-slice_bounds-write_all-end c = sym (length-take-le _ _ (within c.census_text-answer.ensures c.in-Text.is text-fits))
+slice_bounds-write_all-end c = sym (length-take-le _ _ (within c.census_text.ensures c.in-Ok.is text-fits))

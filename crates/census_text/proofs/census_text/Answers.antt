@@ -1,18 +1,16 @@
 -- `census_text` meets its contract: too little room, or the text, which the checker computes from the census.
-use native.Mathlib.Omega.{arith}
+use Rattle.std.proofs.Common.{arith, rules}
 use Rattle.classes.specs.Class.{class_no}
 use Rattle.tally.specs.Census.{census}
 use Rattle.text.specs.Decimal.{strip, decimal}
 use Rattle.text.specs.Hex.{hex_digit, digits}
 use Rattle.words.specs.Names.{bytes, entry, names, name_no, name_of}
-use Rattle.words.proofs.Texts.{answered-none, answered-text}
+use Rattle.words.proofs.Texts.{answered-wrote}
 use Rattle.census_text.specs.Text.{line_of, lines_of, census_text}
 use Rattle.census_text.proofs.census_text.Goals as goal
-
-pub returns-then-out-lt1534 : goal.returns-then-out-lt1534
-returns-then-out-lt1534 c = answered-none _ 1534 _ c.if-out-lt1534.true
 
 pub returns : goal.returns
 unfolding census_text lines_of line_of census name_of name_no entry names bytes class_no decimal strip digits hex_digit
 returns c =
-    answered-text 1534 (omega (arith, c)) c.put_bytes.ensures
+    let made = c.new-writer.ensures in
+    answered-wrote 1534 (omega (arith, c)) made.start made.unwritten c.put_bytes.ensures (search rules)

@@ -6,13 +6,13 @@ use Rattle.finder.proofs.FinderLaws.{asked-finds, refused-finds}
 use Rattle.finder.proofs.find.Goals as goal
 
 pub slice_bounds-walk_whole-count : goal.slice_bounds-walk_whole-count
-slice_bounds-walk_whole-count c = asked-length _ _ (sym c.parse.ensures ∙ c.in-Asked.is)
+slice_bounds-walk_whole-count c = asked-length _ _ (sym c.parse.ensures ∙ c.in-Some.is)
 
 pub slice_bounds-walk_whole-start : goal.slice_bounds-walk_whole-start
-slice_bounds-walk_whole-start c = asked-length _ _ (sym c.parse.ensures ∙ c.in-Asked.is)
+slice_bounds-walk_whole-start c = asked-length _ _ (sym c.parse.ensures ∙ c.in-Some.is)
 
-pub returns-in-Asked : goal.returns-in-Asked
-returns-in-Asked c = asked-finds _ _ _ _ _ (sym c.parse.ensures ∙ c.in-Asked.is) (rw part_to_end at c.walk_whole.ensures)
+pub returns-in-Some : goal.returns-in-Some
+returns-in-Some c = asked-finds _ _ _ _ _ (sym c.parse.ensures ∙ c.in-Some.is) (rw part_to_end at c.walk_whole.ensures)
 
-pub returns-in-Refused : goal.returns-in-Refused
-returns-in-Refused c = refused-finds _ _ _ (sym c.parse.ensures ∙ c.in-Refused.is) c.no_counts.ensures
+pub returns-in-None : goal.returns-in-None
+returns-in-None c = refused-finds _ _ _ (sym c.parse.ensures ∙ c.in-None.is) c.no_counts.ensures

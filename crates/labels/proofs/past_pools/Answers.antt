@@ -9,20 +9,20 @@ unfolding past_pools
 returns-then-not-contains c = λ l h. rw (c.on.ensures, (sym c.contains.ensures ∙ c.if-not-contains.true)) (record { stays = refl; call = refl; holds = h; says = refl })
 
 pub field-requires : goal.field-requires
-field-requires c = (search rules, above_within _ _ _ (sym c.at_or_above.ensures ∙ c.in-At.is), omega arith)
+field-requires c = (search rules, above_within _ _ _ (sym c.at_or_above.ensures ∙ c.in-Some.is), omega arith)
 
-pub returns-then-s-ins : goal.returns-then-s-ins
+pub returns-in-None : goal.returns-in-None
 unfolding past_pools
-returns-then-s-ins c = λ l h. rw (c.end.ensures, (sym c.contains.ensures ∙ c.if-not-contains.false), ← c.at_or_above.ensures, c.in-Missing.is, lt-ltb _ _ c.if-s-ins.true) (record { stays = refl; call = refl; holds = h; says = refl })
+returns-in-None c = λ l h. rw (c.end.ensures, (sym c.contains.ensures ∙ c.if-not-contains.false), ← c.at_or_above.ensures, c.in-None.is, lt-ltb _ _ c.if-s-ins.true) (record { stays = refl; call = refl; holds = h; says = refl })
 
-pub returns-in-At : goal.returns-in-At
+pub returns-in-Some : goal.returns-in-Some
 unfolding past_pools
-returns-in-At c = λ l h. rw (c.on-in-At.ensures, c.goto.ensures, c.field.ensures, (sym c.contains.ensures ∙ c.if-not-contains.false), ← c.at_or_above.ensures, c.in-At.is) (record { stays = refl; call = refl; holds = h; says = refl })
+returns-in-Some c = λ l h. rw (c.on-in-Some.ensures, c.goto.ensures, c.field.ensures, (sym c.contains.ensures ∙ c.if-not-contains.false), ← c.at_or_above.ensures, c.in-Some.is) (record { stays = refl; call = refl; holds = h; says = refl })
 
-pub returns-in-At-first_gap : goal.returns-in-At-first_gap
+pub returns-in-Some-first_gap : goal.returns-in-Some-first_gap
 unfolding past_pools
-returns-in-At-first_gap c = λ l h. rw (c.on-in-At-first_gap.ensures, c.goto-in-At-first_gap.ensures, (sym c.contains.ensures ∙ c.if-not-contains.false), ← c.at_or_above.ensures, c.in-Missing.is, le-ltb _ _ c.if-s-ins.false, ← c.first_gap.ensures, c.in-At-first_gap.is) (record { stays = refl; call = refl; holds = h; says = refl })
+returns-in-Some-first_gap c = λ l h. rw (c.on-in-Some-first_gap.ensures, c.goto-in-Some-first_gap.ensures, (sym c.contains.ensures ∙ c.if-not-contains.false), ← c.at_or_above.ensures, c.in-None.is, le-ltb _ _ c.if-s-ins.false, ← c.first_gap.ensures, c.in-Some-first_gap.is) (record { stays = refl; call = refl; holds = h; says = refl })
 
-pub returns-in-Beyond : goal.returns-in-Beyond
+pub returns-in-None-first_gap : goal.returns-in-None-first_gap
 unfolding past_pools
-returns-in-Beyond c = λ l h. rw (c.refuse.ensures, (sym c.contains.ensures ∙ c.if-not-contains.false), ← c.at_or_above.ensures, c.in-Missing.is, le-ltb _ _ c.if-s-ins.false, ← c.first_gap.ensures, c.in-Beyond.is) (record { stays = refl; call = refl; holds = h; says = refl })
+returns-in-None-first_gap c = λ l h. rw (c.refuse.ensures, (sym c.contains.ensures ∙ c.if-not-contains.false), ← c.at_or_above.ensures, c.in-None.is, le-ltb _ _ c.if-s-ins.false, ← c.first_gap.ensures, c.in-None-first_gap.is) (record { stays = refl; call = refl; holds = h; says = refl })

@@ -1,6 +1,6 @@
--- `listing::listing` meets its contract.
-use Rattle.base.proofs.Prelude.{◌∙◌, sym, arith, leb-true, leb-false}
-use Rattle.words.proofs.Texts.{answered-none, answered-text}
+-- `listing::listing` meets its contract: the lines are written at the buffer's start, or there is too little room.
+use Rattle.base.proofs.Prelude.{◌∙◌, sym, arith, rules, length, leb-true, leb-false}
+use Rattle.words.proofs.Texts.{answered-none, answered-wrote}
 use Rattle.listing.specs.Listing.{text_of, room_with, room_for}
 use Rattle.listing.proofs.ListingLaws.{shown-fits}
 use Rattle.context.specs.Lists.{lists}
@@ -11,17 +11,21 @@ has_room-requires c =
     let f = shown-fits (lists c.args.labels.now c.args.pools.now c.args.jump_tables.now c.args.inline_tables.now c.args.calls.now) c.args.counts in
     rw c.shown-n.ensures (omega (arith, f.labels, f.pools, f.jump_tables, f.inline_tables, f.calls))
 
-pub put_answer-requires : goal.put_answer-requires
-put_answer-requires c = (leb-true _ _ (sym c.has_room.ensures ∙ c.if-has_room.true), rw c.shown-n.ensures (shown-fits _ _))
-
-pub returns-then-has_room : goal.returns-then-has_room
+pub returns-then-not-has_room : goal.returns-then-not-has_room
 unfolding text_of room_for
-returns-then-has_room c =
+returns-then-not-has_room c =
     rw (← c.shown-n.ensures)
-    (answered-text (room_with c.shown-n.result) (leb-true _ _ (sym c.has_room.ensures ∙ c.if-has_room.true)) c.put_answer.ensures)
+    (answered-none _ (room_with c.shown-n.result) _ (leb-false _ _ (sym c.has_room.ensures ∙ c.if-not-has_room.true)))
+
+pub put_answer-requires : goal.put_answer-requires
+put_answer-requires c =
+    let made = c.new-writer.ensures in
+    (rw (made.start, made.unwritten) (omega (arith, leb-true (room_with c.shown-n.result) (length c.args.out.now) (sym c.has_room.ensures ∙ c.if-not-has_room.false))), rw c.shown-n.ensures (shown-fits _ _))
 
 pub returns : goal.returns
 unfolding text_of room_for
 returns c =
+    let made = c.new-writer.ensures in
     rw (← c.shown-n.ensures)
-    (answered-none _ (room_with c.shown-n.result) _ (leb-false _ _ (sym c.has_room.ensures ∙ c.if-has_room.false)))
+    (answered-wrote (room_with c.shown-n.result) (leb-true _ _ (sym c.has_room.ensures ∙ c.if-not-has_room.false))
+    made.start made.unwritten c.put_answer.ensures (search rules))

@@ -1,13 +1,10 @@
--- `listing::put_field` meets its contract.
-use Rattle.base.proofs.Prelude.{◌≤◌, arith, length}
-use Rattle.text.proofs.Put.{written_then}
+-- `listing::put_field` meets its contract: two pieces, one after the other.
+use Rattle.base.proofs.Prelude.{arith}
+use Rattle.text.proofs.Hex.{hex-length}
+use Rattle.text.proofs.Writers.{wrote_then}
 use Rattle.listing.specs.Lines.{field}
-use Rattle.listing.proofs.ListingLaws.{field-length}
 use Rattle.listing.proofs.put_field.Goals as goal
 
 pub returns : goal.returns
 unfolding field
-returns c =
-    let room : c.args.at ≤ length c.args.out.now = omega (arith, c) in
-    let both = written_then c.put_byte-next.ensures c.put_hex.ensures room in
-    (both, omega (arith, both.next, field-length c.args.value))
+returns c = (wrote_then c.put_byte.ensures c.put_hex.ensures, omega (arith, hex-length 8 c.args.value))

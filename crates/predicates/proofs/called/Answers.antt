@@ -1,16 +1,22 @@
 -- `called` meets its contract.
-use Rattle.base.proofs.Prelude.{◌∙◌, sym}
+use Rattle.base.proofs.Prelude.{sym, refl, ◌≡◌, subst, Bool, true, false, T}
+use Rattle.classes.specs.declared.Class.{Class}
+use Rattle.classes.specs.Class.{class_no, is}
+use Rattle.classes.proofs.Numbers.{same_number}
 use Rattle.predicates.specs.Predicates.{called_by}
 use Rattle.predicates.proofs.called.Goals as goal
 
-pub returns-then-is : goal.returns-then-is
-unfolding called_by
-returns-then-is c = rw (sym c.is.ensures ∙ c.if-is.true)
+apart : (j k : Class) → (j ≡ k → ⊥) → is j k ≡ false
+apart j k differs = go (is j k) refl
+  where
+    go : (b : Bool) → is j k ≡ b → b ≡ false
+    go true e = absurd (differs (same_number j k (subst T (sym e) tt)))
+    go false e = refl
 
-pub returns-then-is-2 : goal.returns-then-is-2
-unfolding called_by
-returns-then-is-2 c = rw (sym c.is.ensures ∙ c.if-is.false, sym c.is-2.ensures ∙ c.if-is-2.true)
+pub returns-in-Blx1 : goal.returns-in-Blx1
+unfolding called_by class_no
+returns-in-Blx1 c = rw c.in-Blx1.is
 
-pub returns : goal.returns
+pub returns-in_default : goal.returns-in_default
 unfolding called_by
-returns c = rw (sym c.is.ensures ∙ c.if-is.false, sym c.is-2.ensures ∙ c.if-is-2.false)
+returns-in_default c = rw (apart _ _ c.in_default.not-Bl, apart _ _ c.in_default.not-Blx1)

@@ -11,6 +11,6 @@ pub returns-then-is_request : goal.returns-then-is_request
 unfolding parsed
 returns-then-is_request c = rw (sym c.is_request.ensures ∙ c.if-is_request.true, c.fields.ensures)
 
-pub returns : goal.returns
+pub returns-else-is_request : goal.returns-else-is_request
 unfolding parsed
-returns c = rw (sym c.is_request.ensures ∙ c.if-is_request.false)
+returns-else-is_request c = rw (sym c.is_request.ensures ∙ c.if-is_request.false)

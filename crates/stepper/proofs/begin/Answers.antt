@@ -1,12 +1,12 @@
 -- `stepper::begin` meets its contract.
-use Rattle.base.proofs.Prelude.{refl, eq-eqb, ne_eqb}
+use Rattle.base.proofs.Prelude.{refl}
 use Rattle.stepper.specs.Stepper.{begin}
 use Rattle.stepper.proofs.begin.Goals as goal
 
-pub returns-then-number-ne0 : goal.returns-then-number-ne0
+pub returns-in-Err : goal.returns-in-Err
 unfolding begin
-returns-then-number-ne0 c = rw (← c.begin-number.ensures, ne_eqb _ _ c.if-number-ne0.true) (record { walks = c.new.ensures; answers = c.refused.ensures; holds = refl })
+returns-in-Err c = rw (← c.begin.ensures, c.in-Err.is) (record { walks = c.new.ensures; answers = c.refused.ensures; holds = refl })
 
 pub returns : goal.returns
 unfolding begin
-returns c = rw (← c.begin-number.ensures, eq-eqb _ _ c.if-number-ne0.false) (record { walks = rw (c.new-2.ensures, c.no_counts.ensures); answers = refl; holds = c.zero_all.ensures })
+returns c = rw (← c.begin.ensures, c.in_default.is) (record { walks = rw (c.new-2.ensures, c.no_counts.ensures); answers = refl; holds = c.zero_all.ensures })

@@ -9,13 +9,13 @@ pub returns-then-not-is_going : goal.returns-then-not-is_going
 unfolding step
 returns-then-not-is_going c = rw ((sym c.is_going.ensures ∙ c.if-not-is_going.true)) (record { walks = refl; answers = refl; holds = refl })
 
-pub returns-then-number-ne0 : goal.returns-then-number-ne0
+pub returns-in-Err : goal.returns-in-Err
 unfolding step
-returns-then-number-ne0 c = rw ((sym c.is_going.ensures ∙ c.if-not-is_going.false), ← c.step-number.ensures, ne_eqb _ _ c.if-number-ne0.true) (record { walks = refl; answers = c.refused.ensures; holds = refl })
+returns-in-Err c = rw ((sym c.is_going.ensures ∙ c.if-not-is_going.false), ← c.step-passed.ensures, c.in-Err.is) (record { walks = refl; answers = c.refused.ensures; holds = refl })
 
 pub turn-after-requires : goal.turn-after-requires
-turn-after-requires c = turn-may c.args.o (c.args.code.now) (c.args.starts.now) c.args.w (lists (c.args.labels.now) (c.args.pools.now) (c.args.jump_tables.now) (c.args.inline_tables.now) (c.args.calls.now)) (sym c.step-number.ensures ∙ c.if-number-ne0.false)
+turn-after-requires c = turn-may c.args.o (c.args.code.now) (c.args.starts.now) c.args.w (lists (c.args.labels.now) (c.args.pools.now) (c.args.jump_tables.now) (c.args.inline_tables.now) (c.args.calls.now)) (sym c.step-passed.ensures ∙ c.in_default.is)
 
 pub returns : goal.returns
 unfolding step
-returns c = rw ((sym c.is_going.ensures ∙ c.if-not-is_going.false), ← c.step-number.ensures, eq-eqb _ _ c.if-number-ne0.false) (called-turned c.turn-after.ensures)
+returns c = rw ((sym c.is_going.ensures ∙ c.if-not-is_going.false), ← c.step-passed.ensures, c.in_default.is) (called-turned c.turn-after.ensures)

@@ -1,8 +1,7 @@
 -- `tables::jump_table` meets its contract.
-use Rattle.tables.proofs.Laws.{jump-next, jump-found, jump-refused}
-use Rattle.base.proofs.Prelude.{◌∙◌}
+use Rattle.tables.proofs.Laws.{jump-next, jump-in, jump-full, jump-refused}
 use Rattle.tables.proofs.jump_table.Goals as goal
-use Rattle.tables.proofs.jump_table.Goals.{in-Next, in-Found, in-Refused}
+use Rattle.tables.proofs.jump_table.Goals.{in-Ok+in-Some+in-Ok-enter, in-Ok+in-Some+in-Err-enter, in-Ok+in_default, in-Err}
 
 pub returns : goal.returns
 returns c =
@@ -12,9 +11,10 @@ returns c =
     let to = c.jump_table_to.ensures in
     let raised = c.raise_to_table.ensures in
     elim c.match-handle.branch [
-      | in-Next w ↦ jump-next c.args.ins s is counts to raised w.in-Next.is w.jump_tables-is w.machine-is w.count-is w.refusal-is
-      | in-Found w ↦
-          let put = w.enter-e in
-          rw w.jump_tables-is (jump-found c.args.ins s is counts to raised w.in-Found.is put.ensures put.auto.list w.machine-is w.count-is (w.refusal-is ∙ w.full_refusal-refusal.ensures))
-      | in-Refused w ↦ jump-refused c.args.ins s is counts to raised w.in-Refused.is w.jump_tables-is w.count-is w.refusal-is
+      | in-Ok+in-Some+in-Ok-enter w ↦
+          rw w.jump_tables-is (jump-in c.args.ins s is counts to raised w.in-Ok.is w.in-Some.is w.in-Ok-enter.ensures w.enter.auto.list w.machine-is w.count-is w.refusal-is)
+      | in-Ok+in-Some+in-Err-enter w ↦
+          rw w.jump_tables-is (jump-full c.args.ins s is counts to raised w.in-Ok.is w.in-Some.is w.in-Err-enter.ensures w.enter.auto.list w.machine-is w.count-is w.refusal-is)
+      | in-Ok+in_default w ↦ jump-next c.args.ins s is counts to raised w.in-Ok.is w.in_default.is w.jump_tables-is w.machine-is w.count-is w.refusal-is
+      | in-Err w ↦ jump-refused c.args.ins s is counts to raised w.in-Err.is w.jump_tables-is w.count-is w.refusal-is
     ]

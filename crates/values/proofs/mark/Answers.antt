@@ -6,12 +6,12 @@ use Rattle.values.proofs.mark.Goals as goal
 
 pub field-value-requires : goal.field-value-requires
 field-value-requires c =
-    let at = sym c.index_of.ensures ∙ c.in-At.is in
+    let at = sym c.index_of.ensures ∙ c.in-Some.is in
     (c.requires, found_within pool_row c.args.count (c.args.pools.now) c.args.address at, omega arith)
 
-pub returns-in-At : goal.returns-in-At
-returns-in-At c =
-    let at = sym c.index_of.ensures ∙ c.in-At.is in
+pub returns-in-Some : goal.returns-in-Some
+returns-in-Some c =
+    let at = sym c.index_of.ensures ∙ c.in-Some.is in
     mark-found c.requires c.args.address at c.field-value.ensures c.enter.ensures
 
 pub returns-in_default : goal.returns-in_default

@@ -8,12 +8,12 @@ pub returns-then-not-is_pool_load : goal.returns-then-not-is_pool_load
 unfolding pool_load
 returns-then-not-is_pool_load c = λ l h. rw (c.on.ensures, sym c.is_pool_load.ensures ∙ c.if-not-is_pool_load.true) (record { stays = refl; call = refl; holds = h; says = refl })
 
-pub returns-then-e : goal.returns-then-e
-returns-then-e c = let load = sym c.is_pool_load.ensures ∙ c.if-not-is_pool_load.false in let word = sym c.word_from.ensures ∙ c.in-Found.is in let put = c.enter-e in pool-full c.args.o c.args.ins c.args.s (c.args.code.now) load c.pool_address-address.ensures word put.ensures put.auto.list c.count_pools-t.ensures c.if-e.true c.refuse.ensures
-
-pub returns-else-e : goal.returns-else-e
-returns-else-e c = let load = sym c.is_pool_load.ensures ∙ c.if-not-is_pool_load.false in let word = sym c.word_from.ensures ∙ c.in-Found.is in let put = c.enter-e in pool-in c.args.o c.args.ins c.args.s (c.args.code.now) load c.pool_address-address.ensures word put.ensures put.auto.list c.count_pools-t.ensures c.if-e.false c.pool_to.ensures c.on-in-Found.ensures
-
-pub returns-in-Missing : goal.returns-in-Missing
+pub returns-in_default : goal.returns-in_default
 unfolding pool_load
-returns-in-Missing c = let load = sym c.is_pool_load.ensures ∙ c.if-not-is_pool_load.false in λ l h. rw (c.refuse-in-Missing.ensures, load, ← c.pool_address-address.ensures, ← c.word_from.ensures, c.in-Missing.is) (record { stays = refl; call = refl; holds = h; says = refl })
+returns-in_default c = let load = sym c.is_pool_load.ensures ∙ c.if-not-is_pool_load.false in λ l h. rw (c.refuse.ensures, load, ← c.pool_address-address.ensures, ← c.word_from.ensures, c.in_default.is) (record { stays = refl; call = refl; holds = h; says = refl })
+
+pub returns-in-Ok : goal.returns-in-Ok
+returns-in-Ok c = let load = sym c.is_pool_load.ensures ∙ c.if-not-is_pool_load.false in let word = sym c.word_from.ensures ∙ c.in-Some.is in pool-in c.args.o c.args.ins c.args.s (c.args.code.now) load c.pool_address-address.ensures word c.enter.auto.list c.in-Ok.ensures c.count_pools.ensures c.pool_to.ensures c.on-in-Ok.ensures
+
+pub returns-in-Err : goal.returns-in-Err
+returns-in-Err c = let load = sym c.is_pool_load.ensures ∙ c.if-not-is_pool_load.false in let word = sym c.word_from.ensures ∙ c.in-Some.is in pool-full c.args.o c.args.ins c.args.s (c.args.code.now) load c.pool_address-address.ensures word c.enter.auto.list c.in-Err.ensures c.refuse-in-Err.ensures

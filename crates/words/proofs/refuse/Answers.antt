@@ -1,14 +1,12 @@
--- `words::refuse` meets its contract: too little room, or the line.
-use Rattle.base.proofs.Prelude.{arith}
+-- `words::refuse` meets its contract: the line is written at the buffer's start.
+use Rattle.base.proofs.Prelude.{arith, rules}
 use Rattle.words.specs.Names.{bytes}
 use Rattle.words.specs.Answer.{refusal}
-use Rattle.words.proofs.Texts.{answered-none, answered-text}
+use Rattle.words.proofs.Texts.{answered-wrote}
 use Rattle.words.proofs.refuse.Goals as goal
-
-pub returns-then-out-lt20 : goal.returns-then-out-lt20
-returns-then-out-lt20 c = answered-none _ 20 _ c.if-out-lt20.true
 
 pub returns : goal.returns
 unfolding refusal bytes
 returns c =
-    answered-text 20 (omega (arith, c)) c.put_bytes.ensures
+    let made = c.new-writer.ensures in
+    answered-wrote 20 (omega (arith, c)) made.start made.unwritten c.put_bytes.ensures (search rules)

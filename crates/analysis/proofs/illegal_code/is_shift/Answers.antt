@@ -1,20 +1,18 @@
 -- `is_shift` meets its contract.
-use Rattle.base.proofs.Prelude.{◌∙◌, sym}
+use Rattle.base.proofs.Prelude.{◌≡◌, false, subst, sym, eq-eqb, ne_eqb, T}
+use Rattle.classes.specs.declared.Class.{Class}
+use Rattle.classes.specs.declared.Class.TheVariants.{Lsl, Lsr, Asr, Ror}
+use Rattle.classes.specs.Class.{class_no, is}
+use Rattle.classes.proofs.Numbers.{same_number}
 use Rattle.analysis.specs.IllegalCode.{is_shift}
 use Rattle.analysis.proofs.illegal_code.is_shift.Goals as goal
 
-pub returns-then-is : goal.returns-then-is
-unfolding is_shift
-returns-then-is c = rw (sym c.is.ensures ∙ c.if-is.true)
+other : (j k : Class) → (j ≡ k → ⊥) → is j k ≡ false
+other j k h = ne_eqb (class_no j) (class_no k) (λ e. h (same_number j k (subst T (sym (eq-eqb (class_no j) (class_no k) e)) tt)))
 
-pub returns-then-is-2 : goal.returns-then-is-2
+pub returns-in_default : goal.returns-in_default
 unfolding is_shift
-returns-then-is-2 c = rw (sym c.is.ensures ∙ c.if-is.false, sym c.is-2.ensures ∙ c.if-is-2.true)
-
-pub returns-then-is-3 : goal.returns-then-is-3
-unfolding is_shift
-returns-then-is-3 c = rw (sym c.is.ensures ∙ c.if-is.false, sym c.is-2.ensures ∙ c.if-is-2.false, sym c.is-3.ensures ∙ c.if-is-3.true)
-
-pub returns : goal.returns
-unfolding is_shift
-returns c = rw (sym c.is.ensures ∙ c.if-is.false, sym c.is-2.ensures ∙ c.if-is-2.false, sym c.is-3.ensures ∙ c.if-is-3.false) c.is-4.ensures
+returns-in_default c =
+    let k = c.args.ins.class in
+    let d = c.in_default in
+    rw (other k Lsl d.not-Lsl, other k Lsr d.not-Lsr, other k Asr d.not-Asr, other k Ror d.not-Ror)

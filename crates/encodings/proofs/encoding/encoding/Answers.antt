@@ -1,10 +1,13 @@
--- `encoding` meets its contract: the deciding fields settle the encoding, and each half of the decision ensures its share.
+use Prim.Native.Nat.{◌/◌, ◌%◌}
+use mathlib.Core.Path.{◌∙◌, sym}
 use native.Mathlib.Omega.{arith}
-use Rattle.encodings.proofs.Reduce.{reduced, unconditional-yes, unconditional-no}
+use Rattle.std.proofs.lemmas.Nat.{and_mask}
+use Rattle.encodings.proofs.Reduce.{reduced, unconditional-yes}
 use Rattle.encodings.proofs.encoding.encoding.Goals as goal
 
-pub returns-in-15 : goal.returns-in-15
-returns-in-15 c = rw (reduced, unconditional-yes _ c.in-15.is) (c.unconditional.ensures _ (omega arith))
-
-pub returns-in_default : goal.returns-in_default
-returns-in_default c = rw (reduced, unconditional-no _ c.in_default.in_default-own.rest.1) c.conditional.ensures
+-- no field is decisive under condition 1111 but those that are passed
+pub returns-then-word-eq15 : goal.returns-then-word-eq15
+returns-then-word-eq15 c =
+    let w = c.args.word in
+    c.unconditional.ensures (w / 4096 % 2) (omega arith)
+    ∙ rw (and_mask (w / 1048576) 8, and_mask (w / 16) 4, ← unconditional-yes w c.if-word-eq15.true) (sym (reduced w))

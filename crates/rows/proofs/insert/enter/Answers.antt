@@ -1,16 +1,17 @@
 -- `rows::insert::enter` meets its contract. By the insert's answer.
-use Rattle.rows.proofs.InsertLaws.{entered, countable}
-use Rattle.base.proofs.Prelude.{arith}
+use Rattle.base.proofs.Prelude.{◌≡◌, rules}
+use Rattle.std.specs.Prelude.{Ok, Err}
+use Rattle.rows.specs.declared.Change.TheVariants.{Added, Replaced}
+use Rattle.rows.proofs.InsertLaws.{entered}
 use Rattle.rows.proofs.insert.enter.Goals as goal
 
-pub overflow_add-result : goal.overflow_add-result
-overflow_add-result c = omega (arith, countable (rw c.in-Added.is at c.insert-change.ensures), c.insert-change.auto)
+pub returns-in_err-insert : goal.returns-in_err-insert
+returns-in_err-insert c =
+    let same : c.from_residual.result ≡ Err c.in_err-insert.field-0.0 = search rules in
+    rw same (entered (Err c.in_err-insert.field-0.0) c.requires.0 c.in_err-insert.ensures)
 
 pub returns-in-Added : goal.returns-in-Added
-returns-in-Added c = entered c.requires.0 (rw c.in-Added.is at c.insert-change.ensures)
+returns-in-Added c = entered (Ok Added) c.requires.0 (rw c.in-Added.is at c.in_ok-insert.ensures)
 
 pub returns-in-Replaced : goal.returns-in-Replaced
-returns-in-Replaced c = entered c.requires.0 (rw c.in-Replaced.is at c.insert-change.ensures)
-
-pub returns-in-Full : goal.returns-in-Full
-returns-in-Full c = entered c.requires.0 (rw c.in-Full.is at c.insert-change.ensures)
+returns-in-Replaced c = entered (Ok Replaced) c.requires.0 (rw c.in-Replaced.is at c.in_ok-insert.ensures)

@@ -1,37 +1,22 @@
 -- `rows::order::in_order` meets its contract. By its tests.
-use Rattle.base.proofs.Prelude.{◌*◌, arith, length, le-leb, lt-leb}
+use Rattle.base.proofs.Prelude.{◌∙◌, sym, false≢true, ◌*◌, length, le-leb, lt-leb}
 use native.Mathlib.Nat.{div-lt_iff_lt-mul, le-div_iff_mul-le}
 use Rattle.rows.specs.Map.{in_order}
 use Rattle.rows.proofs.order.in_order.Goals as goal
-
-pub returns-then-list-stride : goal.returns-then-list-stride
-unfolding in_order
-returns-then-list-stride c =
-    let list = c.args.list.now in
-    rw (lt-leb (c.args.count * c.args.stride) (length list) ((div-lt_iff_lt-mul c.requires).0 c.if-list-stride.true))
-
-pub is_ascending-requires : goal.is_ascending-requires
-is_ascending-requires c =
-    let list = c.args.list.now in
-    let room = (le-div_iff_mul-le {k = c.args.stride} {x = c.args.count} {y = length list} c.requires).0 c.if-list-stride.false in
-    (c.requires, room)
-
-pub overflow_mul-count : goal.overflow_mul-count
-overflow_mul-count c =
-    let list = c.args.list.now in
-    let room = (le-div_iff_mul-le {k = c.args.stride} {x = c.args.count} {y = length list} c.requires).0 c.if-list-stride.false in
-    omega arith
+use Rattle.rows.proofs.order.in_order.Goals.{then-count-list, else-count-list}
 
 pub returns-then-is_ascending : goal.returns-then-is_ascending
 unfolding in_order
 returns-then-is_ascending c =
-    let list = c.args.list.now in
-    let room = (le-div_iff_mul-le {k = c.args.stride} {x = c.args.count} {y = length list} c.requires).0 c.if-list-stride.false in
-    rw (le-leb _ _ room, ← c.is_ascending.ensures, c.if-is_ascending.true) c.zeros_from.ensures
+    elim c.if-count-list.branch [
+      | then-count-list w ↦ rw (le-leb _ _ ((le-div_iff_mul-le {k = c.args.stride} {x = c.args.count} {y = length c.args.list.now} c.requires).0 w.if-count-list.true), ← w.is_ascending.ensures, ← w.value-is, c.if-is_ascending.true) c.zeros_from.ensures
+      | else-count-list w ↦ absurd (false≢true (sym (w.value-is ∙ lt-leb _ _ w.if-count-list.false) ∙ c.if-is_ascending.true))
+    ]
 
 pub returns-else-is_ascending : goal.returns-else-is_ascending
 unfolding in_order
 returns-else-is_ascending c =
-    let list = c.args.list.now in
-    let room = (le-div_iff_mul-le {k = c.args.stride} {x = c.args.count} {y = length list} c.requires).0 c.if-list-stride.false in
-    rw (le-leb _ _ room, ← c.is_ascending.ensures, c.if-is_ascending.false)
+    elim c.if-count-list.branch [
+      | then-count-list w ↦ rw (le-leb _ _ ((le-div_iff_mul-le {k = c.args.stride} {x = c.args.count} {y = length c.args.list.now} c.requires).0 w.if-count-list.true), ← w.is_ascending.ensures, ← w.value-is, c.if-is_ascending.false)
+      | else-count-list w ↦ rw (lt-leb (c.args.count * c.args.stride) (length c.args.list.now) ((div-lt_iff_lt-mul c.requires).0 w.if-count-list.false)) c.if-is_ascending.false
+    ]

@@ -1,9 +1,9 @@
--- `rows::order::is_ascending` meets its contract. The loop's invariant: the test on the addresses from i on, after the one before, decides. The measure is how many are left.
+-- `rows::order::is_ascending` meets its contract. The loop's invariant: the test on the addresses from i on, after the one before, decides.
 use Rattle.base.proofs.Prelude.{◌∙◌, sym, ◌≡◌, ap, arith, length}
 use Rattle.rows.specs.Order.{ascending}
 use Rattle.rows.proofs.OrderLaws.{rising-start, rising-more, rising-broken, rising-done}
 use Rattle.rows.specs.Map.{map_in}
-use Rattle.rows.proofs.MapLaws.{row_fits, key-at, key-first}
+use Rattle.rows.proofs.MapLaws.{key-at, key-first}
 use Rattle.rows.proofs.SearchLaws.{keys_in, keys_length, keys-whole}
 use Rattle.rows.proofs.order.is_ascending.Goals as goal
 
@@ -11,30 +11,11 @@ pub returns-then-count-eq0 : goal.returns-then-count-eq0
 unfolding ascending map_in
 returns-then-count-eq0 c = rw c.if-count-eq0.true
 
-pub bounds-list-0 : goal.bounds-list-0
-bounds-list-0 c =
-    omega (arith, row_fits 0 c.args.count c.args.stride (omega arith) c.requires.1)
-
 pub loop-i-init : goal.loop-i-init
 loop-i-init c =
     let keys = keys_in c.args.stride c.args.count (c.args.list.now) in
     let long : length keys ≡ c.args.count = keys_length _ _ _ in
     (omega arith, rw (← key-first c.args.stride c.args.count (c.args.list.now) c.requires.0 (omega arith)) (ap ascending (sym (keys-whole c.args.stride c.args.count (c.args.list.now))) ∙ rising-start keys c.args.count (omega arith) (omega arith)))
-
-pub overflow_mul-key : goal.overflow_mul-key
-overflow_mul-key c =
-    let turn = c.loop-i in
-    omega (arith, row_fits turn.i c.args.count c.args.stride (omega arith) c.requires.1)
-
-pub offset_bounds-list-i : goal.offset_bounds-list-i
-offset_bounds-list-i c =
-    let turn = c.loop-i in
-    omega (arith, row_fits turn.i c.args.count c.args.stride (omega arith) c.requires.1)
-
-pub bounds-list-i : goal.bounds-list-i
-bounds-list-i c =
-    let turn = c.loop-i in
-    omega (arith, row_fits turn.i c.args.count c.args.stride (omega arith) c.requires.1)
 
 pub returns-then-key-before : goal.returns-then-key-before
 returns-then-key-before c =

@@ -3,7 +3,7 @@ use Rattle.base.proofs.Prelude.{◌≡◌, [], ◌*◌, arith, length, get_or}
 use Rattle.rows.proofs.RowLaws.{rank-within}
 use Rattle.rows.specs.Map.{key_of, map_in}
 use Rattle.rows.proofs.MapLaws.{map-length, row-key}
-use Rattle.rows.proofs.SearchLaws.{mid, mid_row, rank_up, rank_down}
+use Rattle.rows.proofs.SearchLaws.{mid, rank_up, rank_down}
 use Rattle.rows.proofs.search.find.Goals as goal
 
 pub loop-lo-init : goal.loop-lo-init
@@ -11,21 +11,6 @@ loop-lo-init c =
     let m = map_in c.args.stride c.args.count (c.args.list.now) in
     let many : length m ≡ c.args.count = map-length _ _ _ in
     (omega arith, omega (arith, rank-within key_of c.args.address m), omega arith)
-
-pub overflow_mul-mid : goal.overflow_mul-mid
-overflow_mul-mid c =
-    let turn = c.loop-lo in
-    omega (arith, mid_row c.args.stride c.args.count turn.lo turn.hi (omega arith) (omega arith) c.requires.fits)
-
-pub offset_bounds-list-mid : goal.offset_bounds-list-mid
-offset_bounds-list-mid c =
-    let turn = c.loop-lo in
-    omega (arith, mid_row c.args.stride c.args.count turn.lo turn.hi (omega arith) (omega arith) c.requires.fits)
-
-pub bounds-list-mid : goal.bounds-list-mid
-bounds-list-mid c =
-    let turn = c.loop-lo in
-    omega (arith, c.requires.some, mid_row c.args.stride c.args.count turn.lo turn.hi (omega arith) (omega arith) c.requires.fits)
 
 pub loop-lo-preserved-then-list-mid : goal.loop-lo-preserved-then-list-mid
 loop-lo-preserved-then-list-mid c =

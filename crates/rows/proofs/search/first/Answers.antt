@@ -1,6 +1,6 @@
 -- `rows::search::first` meets its contract. By its one test.
 use Rattle.base.proofs.Prelude.{◌∙◌, ◌≡◌, ap, arith, length}
-use Rattle.rows.specs.declared.Key.TheVariants.{Address}
+use Rattle.std.specs.Prelude.{Some}
 use Rattle.rows.specs.Map.{map_in}
 use Rattle.rows.proofs.MapLaws.{map-length}
 use Rattle.rows.proofs.SearchLaws.{first-is, none_first}
@@ -11,7 +11,7 @@ returns-then-count-gt0 c =
     let list = c.args.list.now in
     let m = map_in c.args.stride c.args.count list in
     let long : length m ≡ c.args.count = map-length _ _ _ in
-    ap Address c.field.ensures ∙ first-is m (omega arith)
+    ap Some c.field.ensures ∙ first-is m (omega arith)
 
 pub returns-else-count-gt0 : goal.returns-else-count-gt0
 returns-else-count-gt0 c =

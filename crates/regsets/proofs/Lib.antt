@@ -1,2 +1,0 @@
--- What the proofs about sets share.
-pub mod Choice

@@ -1,0 +1,10 @@
+-- `rows::search::rows` meets its contract. The library's chunks are the rows.
+use Rattle.base.proofs.Prelude.{◌≤◌, ◌/◌, length}
+use native.Mathlib.Nat.{le-div_iff_mul-le}
+use Rattle.rows.proofs.MapLaws.{chunks-are}
+use Rattle.rows.proofs.search.rows.Goals as goal
+
+pub returns : goal.returns
+returns g c =
+    let room : c.args.count ≤ length c.args.list.now / g.row.STRIDE = (le-div_iff_mul-le {k = g.row.STRIDE} {x = c.args.count} {y = length c.args.list.now} c.requires.some).1 c.requires.fits in
+    rw c.as_chunks.ensures.front (chunks-are g.row.STRIDE c.args.count (length c.args.list.now / g.row.STRIDE) c.args.list.now room)

@@ -1,8 +1,0 @@
--- `validity::last_pool` meets its contract.
-use Rattle.validity.proofs.last_pool.Goals as goal
-
-pub returns-in-Address : goal.returns-in-Address
-returns-in-Address c = rw (← c.last.ensures, c.in-Address.is)
-
-pub returns-in-Nothing : goal.returns-in-Nothing
-returns-in-Nothing c = rw (← c.last.ensures, c.in-Nothing.is)
