@@ -2,8 +2,6 @@
 // that word goes, its immediate load or store offset as 32 bits, and its immediate operand. A register in their place is written as 0.
 #![tactic(auto)]
 
-ghost use Rattle.std.specs.Prelude.{◌≤◌, length};
-
 use classes::{AddrLdrStr, LdrStrOffset, Op2};
 use std::io::{self, Stdin, Stdout, Write};
 
@@ -19,29 +17,20 @@ fn immediate(op2: Op2) -> u32 {
     if let Op2::Imm(v) = op2 { v } else { 0 }
 }
 
-// One line of 45 bytes.
-fn put_record(line: &mut [u8], word: u32, address: u32)
-    requires { 45 ≤ length line.old }
-{
-    let ins = arm::decode(word, address);
-    text::put_hex(line, 0, 8, word);
-    text::put_hex(line, 9, 8, address);
-    text::put_hex(line, 18, 8, ins.target);
-    text::put_hex(line, 27, 8, load_offset(ins.addr));
-    text::put_hex(line, 36, 8, immediate(ins.op2));
-}
-
 // A line for each record; what is left over at the end is none.
 fn write_lines<W: Write>(output: &mut W, input: &[u8]) -> io::Result<()> {
     let (records, _) = input.as_chunks::<8>();
     for record in records {
-        let mut line = *b"                                            \n";
-        put_record(
-            &mut line,
-            words::word_at(record, 0),
-            words::word_at(record, 4),
-        );
-        output.write_all(&line)?;
+        let word = words::word_at(record, 0);
+        let address = words::word_at(record, 4);
+        let ins = arm::decode(word, address);
+        let target = ins.target;
+        let offset = load_offset(ins.addr);
+        let operand = immediate(ins.op2);
+        writeln!(
+            output,
+            "{word:08x} {address:08x} {target:08x} {offset:08x} {operand:08x}"
+        )?;
     }
     Ok(())
 }
