@@ -2,43 +2,44 @@
 -- Assumes nothing.
 use Rattle.std.specs.Prelude.{Bool, true, false, eqb}
 use Rattle.classes.specs.declared.Class.TheVariants.{Eor, Mov, Ldr, Add, B}
+use Rattle.classes.specs.declared.Cond.TheVariants.{Mi, Ge, Al}
 use Rattle.arm.specs.declared.Ins.{Ins}
 use Rattle.analysis.specs.declared.function_branch.FunctionBranchState.{FunctionBranchState}
 use Rattle.analysis.specs.declared.function_branch.FunctionBranchState.TheVariants.{Start, Eors, MovgePcLr, MovFromSp, LdrIpPc, AddR0Ip, FunctionBranch}
-use Rattle.analysis.specs.Pattern.{is_when, is_data, is_register, is_pre, mi, ge, al, ip, sp, lr, pc}
+use Rattle.analysis.specs.Pattern.{is_when, is_data, is_register, is_pre, ip, sp, lr, pc}
 use Rattle.base.specs.Choice.{pick, both}
 
 -- movge pc, lr
 unfoldable pub movge_pc_lr : Ins → Bool
-movge_pc_lr i = both (is_data i Mov ge false) (both (eqb i.rd pc) (is_register i.op2 lr))
+movge_pc_lr i = both (is_data i Mov Ge false) (both (eqb i.rd pc) (is_register i.op2 lr))
 
 -- mov *, sp
 unfoldable pub mov_from_sp : Ins → Bool
-mov_from_sp i = both (is_data i Mov al false) (is_register i.op2 sp)
+mov_from_sp i = both (is_data i Mov Al false) (is_register i.op2 sp)
 
 -- ldr ip, [pc, *]
 unfoldable pub ldr_ip_pc : Ins → Bool
-ldr_ip_pc i = both (is_when i Ldr al) (both (eqb i.rd ip) (is_pre i.addr pc))
+ldr_ip_pc i = both (is_when i Ldr Al) (both (eqb i.rd ip) (is_pre i.addr pc))
 
 -- add r0, r0, ip
 unfoldable pub add_r0_ip : Ins → Bool
-add_r0_ip i = both (is_data i Add al false) (both (eqb i.rd 0) (both (eqb i.rn 0) (is_register i.op2 ip)))
+add_r0_ip i = both (is_data i Add Al false) (both (eqb i.rd 0) (both (eqb i.rn 0) (is_register i.op2 ip)))
 
 -- eors *, *, *; movge pc, lr; mov *, sp; ldr ip, [pc, *]
 unfoldable pub at_start : Ins → FunctionBranchState
 at_start i =
-    pick (is_data i Eor al true) Eors
+    pick (is_data i Eor Al true) Eors
     (pick (movge_pc_lr i) MovgePcLr
     (pick (mov_from_sp i) MovFromSp
     (pick (ldr_ip_pc i) LdrIpPc Start)))
 
 -- bmi *
 unfoldable pub after_eors : Ins → FunctionBranchState
-after_eors i = pick (is_when i B mi) FunctionBranch (pick i.updates_condition_flags Start Eors)
+after_eors i = pick (is_when i B Mi) FunctionBranch (pick i.updates_condition_flags Start Eors)
 
 -- b *
 unfoldable pub before_branch : Ins → FunctionBranchState
-before_branch i = pick (is_when i B al) FunctionBranch Start
+before_branch i = pick (is_when i B Al) FunctionBranch Start
 
 -- add r0, r0, ip
 unfoldable pub after_ldr : Ins → FunctionBranchState

@@ -3,6 +3,7 @@
 -- Assumes nothing.
 use Rattle.std.specs.Prelude.{ℕ, ◌+◌, ◌-◌, Bool, true, false, eqb, ltb, Option, Some, None, Result, Ok, Err}
 use Rattle.classes.specs.declared.Class.TheVariants.{Sub, Ldrb}
+use Rattle.classes.specs.declared.Cond.TheVariants.{Al}
 use Rattle.arm.specs.declared.Ins.{Ins}
 use Rattle.classes.specs.declared.Op2.{Op2}
 use Rattle.classes.specs.declared.Op2.TheVariants.{Imm, ShiftImm, ShiftReg}
@@ -11,7 +12,7 @@ use Rattle.analysis.specs.declared.inline_table.InlineTableState.TheVariants.{St
 use Rattle.analysis.specs.declared.inline_table.InlineTable.{InlineTable}
 use Rattle.base.specs.declared.refusal.Refusal.{Refusal}
 use Rattle.base.specs.declared.refusal.Refusal.TheVariants.{Beyond32Bits}
-use Rattle.analysis.specs.Pattern.{is_when, is_data, is_pre, by_lsr, al, pc}
+use Rattle.analysis.specs.Pattern.{is_when, is_data, is_pre, by_lsr, pc}
 use Rattle.base.specs.Choice.{pick, both}
 
 -- 0x100, and how far ahead of the instruction PC reads: 4 bytes in Thumb, 8 in ARM
@@ -32,11 +33,11 @@ sub_from thumb address rd (ShiftReg rm op rs) = Ok Start
 
 -- sub table_base, pc, #offset
 unfoldable pub sub_pc_of : Bool → ℕ → Ins → Result InlineTableState Refusal
-sub_pc_of thumb address i = pick (both (is_data i Sub al false) (eqb i.rn pc)) (sub_from thumb address i.rd i.op2) (Ok Start)
+sub_pc_of thumb address i = pick (both (is_data i Sub Al false) (eqb i.rn pc)) (sub_from thumb address i.rd i.op2) (Ok Start)
 
 -- ldrb *, [table_base, r* lsr #*]
 unfoldable pub is_table_load : Ins → ℕ → Bool
-is_table_load i base = both (is_when i Ldrb al) (both (is_pre i.addr base) (by_lsr i.addr))
+is_table_load i base = both (is_when i Ldrb Al) (both (is_pre i.addr base) (by_lsr i.addr))
 
 unfoldable pub table_made : ℕ → ℕ → Result InlineTableState Refusal
 table_made address size = pick (ltb (address + size) 0x1_0000_0000) (Ok (ValidTable (record { address = address; size = size }))) (Err Beyond32Bits)

@@ -3,6 +3,8 @@
 -- Assumes nothing.
 use Rattle.std.specs.Prelude.{ℕ, ◌+◌, ◌*◌, Bool, true, false, eqb, ltb, Option, Some, None, Result, Ok, Err}
 use Rattle.classes.specs.declared.Class.TheVariants.{Cmp, Add, B, Pop}
+use Rattle.classes.specs.declared.Cond.{Cond}
+use Rattle.classes.specs.declared.Cond.TheVariants.{Hi, Ls, Ge, Gt, Al}
 use Rattle.arm.specs.declared.Ins.{Ins}
 use Rattle.classes.specs.declared.Op2.{Op2}
 use Rattle.classes.specs.declared.Op2.TheVariants.{Imm, ShiftImm, ShiftReg}
@@ -11,7 +13,7 @@ use Rattle.analysis.specs.declared.jump_table.JumpTableStateArm.TheVariants.{Cmp
 use Rattle.analysis.specs.declared.jump_table.JumpTable.{JumpTable}
 use Rattle.base.specs.declared.refusal.Refusal.{Refusal}
 use Rattle.base.specs.declared.refusal.Refusal.TheVariants.{Beyond32Bits}
-use Rattle.analysis.specs.Pattern.{is_when, is_data, is_scaled, hi, ls, ge, gt, al, pc}
+use Rattle.analysis.specs.Pattern.{is_when, is_data, is_scaled, pc}
 use Rattle.base.specs.Choice.{pick, both}
 
 -- the next state, and the table to record
@@ -34,18 +36,18 @@ is_limit (ShiftReg rm op rs) = false
 
 -- cmp index, #limit, with a positive limit
 unfoldable pub check_start : Ins → Bool
-check_start i = both (is_when i Cmp al) (ltb 0 (limit_of i.op2))
+check_start i = both (is_when i Cmp Al) (ltb 0 (limit_of i.op2))
 
 -- cmp index, #limit: its limit
 abbrev pub limit_in : Ins → Option ℕ
-limit_in i = pick (both (is_when i Cmp al) (is_limit i.op2)) (Some (limit_of i.op2)) None
+limit_in i = pick (both (is_when i Cmp Al) (is_limit i.op2)) (Some (limit_of i.op2)) None
 
 -- cmp index, #limit
 unfoldable pub compared : Ins → Answer
-compared i = pick (both (is_when i Cmp al) (is_limit i.op2)) (next (JumpOrBranchSigned i.rn (limit_of i.op2))) (next CmpReg)
+compared i = pick (both (is_when i Cmp Al) (is_limit i.op2)) (next (JumpOrBranchSigned i.rn (limit_of i.op2))) (next CmpReg)
 
 -- add pc, pc, index, lsl #2
-unfoldable pub is_jump : Ins → ℕ → ℕ → Bool
+unfoldable pub is_jump : Ins → Cond → ℕ → Bool
 is_jump i c index = both (is_data i Add c false) (both (eqb i.rd pc) (both (eqb i.rn pc) (is_scaled i.op2 index)))
 
 -- the table: (limit + 1) * 4 bytes at address + 8
@@ -58,20 +60,20 @@ found address limit =
 -- addls; bgt; pophi; flags set anew
 unfoldable pub jump_or_branch : ℕ → ℕ → ℕ → Ins → Answer
 jump_or_branch index limit address i =
-    pick (is_jump i ls index) (found address limit)
-    (pick (is_when i B gt) (next (SignedBaseline index limit))
-    (pick (is_when i Pop hi) (next (JumpAfterReturn index limit))
+    pick (is_jump i Ls index) (found address limit)
+    (pick (is_when i B Gt) (next (SignedBaseline index limit))
+    (pick (is_when i Pop Hi) (next (JumpAfterReturn index limit))
     (pick i.updates_condition_flags (next CmpReg) (next (JumpOrBranchSigned index limit)))))
 
 -- cmp index, #0
 unfoldable pub is_zero_limit : Ins → ℕ → Bool
-is_zero_limit i index = both (is_when i Cmp al) (both (is_limit i.op2) (both (eqb (limit_of i.op2) 0) (eqb i.rn index)))
+is_zero_limit i index = both (is_when i Cmp Al) (both (is_limit i.op2) (both (eqb (limit_of i.op2) 0) (eqb i.rn index)))
 
 unfoldable pub signed_baseline : ℕ → ℕ → Ins → Answer
 signed_baseline index limit i = pick (is_zero_limit i index) (next (JumpSigned index limit)) (next CmpReg)
 
 -- addge, add; flags set anew
-unfoldable pub jump_at : JumpTableStateArm → ℕ → ℕ → ℕ → ℕ → Ins → Answer
+unfoldable pub jump_at : JumpTableStateArm → Cond → ℕ → ℕ → ℕ → Ins → Answer
 jump_at stay c index limit address i =
     pick (is_jump i c index) (found address limit) (pick i.updates_condition_flags (next CmpReg) (next stay))
 
@@ -83,8 +85,8 @@ abbrev pub in_state : JumpTableStateArm → ℕ → Ins → Answer
 in_state CmpReg address i = compared i
 in_state (JumpOrBranchSigned index limit) address i = jump_or_branch index limit address i
 in_state (SignedBaseline index limit) address i = signed_baseline index limit i
-in_state (JumpSigned index limit) address i = jump_at (JumpSigned index limit) ge index limit address i
-in_state (JumpAfterReturn index limit) address i = jump_at (JumpAfterReturn index limit) al index limit address i
+in_state (JumpSigned index limit) address i = jump_at (JumpSigned index limit) Ge index limit address i
+in_state (JumpAfterReturn index limit) address i = jump_at (JumpAfterReturn index limit) Al index limit address i
 in_state (ValidJumpTable table limit) address i = valid_table table limit address
 
 unfoldable pub jump_table : JumpTableStateArm → ℕ → Ins → Answer

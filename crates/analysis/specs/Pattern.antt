@@ -4,6 +4,7 @@ use Rattle.std.specs.Prelude.{ℕ, Bool, true, false, eqb}
 use Rattle.std.specs.Bool.{beq}
 use Rattle.base.specs.Choice.{both}
 use Rattle.classes.specs.declared.Class.{Class}
+use Rattle.classes.specs.declared.Cond.{Cond}
 use Rattle.arm.specs.declared.Ins.{Ins}
 use Rattle.classes.specs.declared.ShiftOp.{ShiftOp}
 use Rattle.classes.specs.declared.ShiftOp.TheVariants.{Lsl, Lsr, Asr, Ror, Rrx}
@@ -14,26 +15,9 @@ use Rattle.classes.specs.declared.LdrStrOffset.TheVariants.{Imm as Offset-Imm, R
 use Rattle.classes.specs.declared.AddrLdrStr.{AddrLdrStr}
 use Rattle.classes.specs.declared.AddrLdrStr.TheVariants.{Pre, Post}
 use Rattle.classes.specs.Class.{is}
+use Rattle.classes.specs.Cond.{is_cond}
 
--- conditions and registers, by number
-abbrev pub mi : ℕ
-mi = 4
-
-abbrev pub hi : ℕ
-hi = 8
-
-abbrev pub ls : ℕ
-ls = 9
-
-abbrev pub ge : ℕ
-ge = 10
-
-abbrev pub gt : ℕ
-gt = 12
-
-abbrev pub al : ℕ
-al = 14
-
+-- registers, by number
 abbrev pub ip : ℕ
 ip = 12
 
@@ -47,10 +31,10 @@ abbrev pub pc : ℕ
 pc = 15
 
 -- an instruction of a class, under a condition; and one with its S bit as given
-abbrev pub is_when : Ins → Class → ℕ → Bool
-is_when i k c = both (is i.class k) (eqb i.cond c)
+abbrev pub is_when : Ins → Class → Cond → Bool
+is_when i k c = both (is i.class k) (is_cond i.cond c)
 
-abbrev pub is_data : Ins → Class → ℕ → Bool → Bool
+abbrev pub is_data : Ins → Class → Cond → Bool → Bool
 is_data i k c s = both (is_when i k c) (beq i.s s)
 
 -- a second operand that is a register shifted by 0

@@ -2,9 +2,9 @@
 ghost use Rattle.std.specs.Prelude.{◌≡◌};
 ghost use Rattle.analysis.specs.FunctionBranch.{function_branch, at_start, movge_pc_lr, mov_from_sp, ldr_ip_pc, add_r0_ip, after_eors, before_branch, after_ldr, is_function_branch};
 
-use crate::pattern::{AL, GE, IP, LR, MI, PC, SP, is_data, is_pre, is_register, is_when};
+use crate::pattern::{IP, LR, PC, SP, is_data, is_pre, is_register, is_when};
 use arm::Ins;
-use classes::Class;
+use classes::{Class, Cond};
 
 #[derive(Clone, Copy, PartialEq, Eq)]
 pub enum FunctionBranchState {
@@ -43,7 +43,7 @@ impl FunctionBranchState {
 fn start(ins: Ins) -> FunctionBranchState
     ensures { result ≡ at_start ins }
 {
-    if is_data(ins, Class::Eor, AL, true) {
+    if is_data(ins, Class::Eor, Cond::Al, true) {
         FunctionBranchState::Eors
     } else if movge_pc_lr(ins) {
         FunctionBranchState::MovgePcLr
@@ -60,35 +60,38 @@ fn start(ins: Ins) -> FunctionBranchState
 fn movge_pc_lr(ins: Ins) -> bool
     ensures { result ≡ movge_pc_lr ins }
 {
-    is_data(ins, Class::Mov, GE, false) && ins.rd == PC && is_register(ins.op2, LR)
+    is_data(ins, Class::Mov, Cond::Ge, false) && ins.rd == PC && is_register(ins.op2, LR)
 }
 
 #[tactic(auto, unfolding(crate::specs::FunctionBranch::mov_from_sp))]
 fn mov_from_sp(ins: Ins) -> bool
     ensures { result ≡ mov_from_sp ins }
 {
-    is_data(ins, Class::Mov, AL, false) && is_register(ins.op2, SP)
+    is_data(ins, Class::Mov, Cond::Al, false) && is_register(ins.op2, SP)
 }
 
 #[tactic(auto, unfolding(crate::specs::FunctionBranch::ldr_ip_pc))]
 fn ldr_ip_pc(ins: Ins) -> bool
     ensures { result ≡ ldr_ip_pc ins }
 {
-    is_when(ins, Class::Ldr, AL) && ins.rd == IP && is_pre(ins.addr, PC)
+    is_when(ins, Class::Ldr, Cond::Al) && ins.rd == IP && is_pre(ins.addr, PC)
 }
 
 #[tactic(auto, unfolding(crate::specs::FunctionBranch::add_r0_ip))]
 fn add_r0_ip(ins: Ins) -> bool
     ensures { result ≡ add_r0_ip ins }
 {
-    is_data(ins, Class::Add, AL, false) && ins.rd == 0 && ins.rn == 0 && is_register(ins.op2, IP)
+    is_data(ins, Class::Add, Cond::Al, false)
+        && ins.rd == 0
+        && ins.rn == 0
+        && is_register(ins.op2, IP)
 }
 
 #[tactic(auto, unfolding(crate::specs::FunctionBranch::after_eors))]
 fn after_eors(ins: Ins) -> FunctionBranchState
     ensures { result ≡ after_eors ins }
 {
-    if is_when(ins, Class::B, MI) {
+    if is_when(ins, Class::B, Cond::Mi) {
         FunctionBranchState::FunctionBranch
     } else if ins.updates_condition_flags {
         FunctionBranchState::Start
@@ -101,7 +104,7 @@ fn after_eors(ins: Ins) -> FunctionBranchState
 fn branch(ins: Ins) -> FunctionBranchState
     ensures { result ≡ before_branch ins }
 {
-    if is_when(ins, Class::B, AL) {
+    if is_when(ins, Class::B, Cond::Al) {
         FunctionBranchState::FunctionBranch
     } else {
         FunctionBranchState::Start

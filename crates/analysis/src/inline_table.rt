@@ -2,10 +2,10 @@
 ghost use Rattle.std.specs.Prelude.{◌≡◌};
 ghost use Rattle.analysis.specs.InlineTable.{inline_table, sub_pc_of, table_address, is_table_load, table_made, table_of, ahead_of};
 
-use crate::pattern::{AL, PC, by_lsr, is_data, is_pre, is_when};
+use crate::pattern::{PC, by_lsr, is_data, is_pre, is_when};
 use arm::Ins;
 use base::refusal::Refusal;
-use classes::{Class, Op2};
+use classes::{Class, Cond, Op2};
 
 #[derive(Clone, Copy, PartialEq, Eq)]
 pub struct InlineTable {
@@ -56,7 +56,7 @@ fn start(thumb: bool, address: u32, ins: Ins) -> Result<InlineTableState, Refusa
     ensures { result ≡ sub_pc_of thumb address ins }
 {
     match ins.op2 {
-        Op2::Imm(offset) if is_data(ins, Class::Sub, AL, false) && ins.rn == PC => {
+        Op2::Imm(offset) if is_data(ins, Class::Sub, Cond::Al, false) && ins.rn == PC => {
             table_address(thumb, address, ins.rd, offset)
         }
         _ => Ok(InlineTableState::Start),
@@ -97,7 +97,7 @@ fn ahead(thumb: bool) -> u32
 fn is_table_load(ins: Ins, table_base: u8) -> bool
     ensures { result ≡ is_table_load ins table_base }
 {
-    is_when(ins, Class::Ldrb, AL) && is_pre(ins.addr, table_base) && by_lsr(ins.addr)
+    is_when(ins, Class::Ldrb, Cond::Al) && is_pre(ins.addr, table_base) && by_lsr(ins.addr)
 }
 
 #[tactic(auto, unfolding(crate::specs::InlineTable::table_made))]

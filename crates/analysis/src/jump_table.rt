@@ -3,10 +3,10 @@ ghost use Rattle.std.specs.Prelude.{◌≡◌, ◌+◌, ◌*◌, ◌<◌, ◌^�
 ghost use Rattle.analysis.specs.JumpTable.{jump_table, limit_in, is_zero_limit, is_jump, found, in_state};
 ghost use Rattle.analysis.specs.JumpTable.{compared, jump_or_branch, signed_baseline, jump_at, valid_table, table_end};
 
-use crate::pattern::{AL, GE, GT, HI, LS, PC, is_data, is_scaled, is_when};
+use crate::pattern::{PC, is_data, is_scaled, is_when};
 use arm::Ins;
 use base::refusal::Refusal;
-use classes::{Class, Op2};
+use classes::{Class, Cond, Op2};
 
 // The fields of an `InlineTable`, as in the source; a type of its own keeps the two lists apart.
 #[derive(Clone, Copy, PartialEq, Eq)]
@@ -25,13 +25,15 @@ pub enum JumpTableStateArm {
     ValidJumpTable { table_address: u32, limit: u32 },
 }
 
-// The next state and the table to record, unless the table's size or end leaves 32 bits.
-type Answer = Result<(JumpTableStateArm, Option<JumpTable>), Refusal>;
-
 impl JumpTableStateArm {
-    // An unconditional compare with a positive limit starts from any state.
+    // The next state and the table to record, unless the table's size or end leaves 32 bits. An unconditional compare with a positive limit
+    // starts from any state.
     #[tactic(auto, unfolding(crate::specs::JumpTable::jump_table, crate::specs::JumpTable::check_start))]
-    pub fn handle(self, address: u32, ins: Ins) -> Answer
+    pub fn handle(
+        self,
+        address: u32,
+        ins: Ins,
+    ) -> Result<(JumpTableStateArm, Option<JumpTable>), Refusal>
         ensures { result ≡ jump_table self address ins }
     {
         match limit(ins) {
@@ -59,7 +61,11 @@ impl JumpTableStateArm {
     }
 }
 
-fn in_state(state: JumpTableStateArm, address: u32, ins: Ins) -> Answer
+fn in_state(
+    state: JumpTableStateArm,
+    address: u32,
+    ins: Ins,
+) -> Result<(JumpTableStateArm, Option<JumpTable>), Refusal>
     ensures { result ≡ in_state state address ins }
 {
     match state {
@@ -69,10 +75,10 @@ fn in_state(state: JumpTableStateArm, address: u32, ins: Ins) -> Answer
         }
         JumpTableStateArm::SignedBaseline { index, limit } => signed_baseline(index, limit, ins),
         JumpTableStateArm::JumpSigned { index, limit } => {
-            jump_at(state, GE, index, limit, address, ins)
+            jump_at(state, Cond::Ge, index, limit, address, ins)
         }
         JumpTableStateArm::JumpAfterReturn { index, limit } => {
-            jump_at(state, AL, index, limit, address, ins)
+            jump_at(state, Cond::Al, index, limit, address, ins)
         }
         JumpTableStateArm::ValidJumpTable {
             table_address,
@@ -86,13 +92,13 @@ fn limit(ins: Ins) -> Option<u32>
     ensures { result ≡ limit_in ins }
 {
     match ins.op2 {
-        Op2::Imm(limit) if is_when(ins, Class::Cmp, AL) => Some(limit),
+        Op2::Imm(limit) if is_when(ins, Class::Cmp, Cond::Al) => Some(limit),
         _ => None,
     }
 }
 
 #[tactic(auto, unfolding(crate::specs::JumpTable::compared))]
-fn compare(ins: Ins) -> Answer
+fn compare(ins: Ins) -> Result<(JumpTableStateArm, Option<JumpTable>), Refusal>
     ensures { result ≡ compared ins }
 {
     let index = ins.rn;
@@ -104,7 +110,7 @@ fn compare(ins: Ins) -> Answer
 
 // add pc, pc, index, lsl #2
 #[tactic(auto, unfolding(crate::specs::JumpTable::is_jump))]
-fn is_jump(ins: Ins, cond: u8, index: u8) -> bool
+fn is_jump(ins: Ins, cond: Cond, index: u8) -> bool
     ensures { result ≡ is_jump ins cond index }
 {
     is_data(ins, Class::Add, cond, false)
@@ -122,7 +128,7 @@ fn table_end(address: u32, limit: u32) -> Option<u32>
 
 // A table after the jump and the instruction that it skips.
 #[tactic(auto, unfolding(crate::specs::JumpTable::found))]
-fn found_at(address: u32, limit: u32) -> Answer
+fn found_at(address: u32, limit: u32) -> Result<(JumpTableStateArm, Option<JumpTable>), Refusal>
     ensures { result ≡ found address limit }
 {
     let start = address.checked_add(8).ok_or(Refusal::Beyond32Bits)?;
@@ -142,14 +148,19 @@ fn found_at(address: u32, limit: u32) -> Answer
 }
 
 #[tactic(auto, unfolding(crate::specs::JumpTable::jump_or_branch))]
-fn jump_or_branch(index: u8, limit: u32, address: u32, ins: Ins) -> Answer
+fn jump_or_branch(
+    index: u8,
+    limit: u32,
+    address: u32,
+    ins: Ins,
+) -> Result<(JumpTableStateArm, Option<JumpTable>), Refusal>
     ensures { result ≡ jump_or_branch index limit address ins }
 {
-    if is_jump(ins, LS, index) {
+    if is_jump(ins, Cond::Ls, index) {
         found_at(address, limit)
-    } else if is_when(ins, Class::B, GT) {
+    } else if is_when(ins, Class::B, Cond::Gt) {
         Ok((JumpTableStateArm::SignedBaseline { index, limit }, None))
-    } else if is_when(ins, Class::Pop, HI) {
+    } else if is_when(ins, Class::Pop, Cond::Hi) {
         Ok((JumpTableStateArm::JumpAfterReturn { index, limit }, None))
     } else if ins.updates_condition_flags {
         Ok((JumpTableStateArm::CmpReg, None))
@@ -159,7 +170,11 @@ fn jump_or_branch(index: u8, limit: u32, address: u32, ins: Ins) -> Answer
 }
 
 #[tactic(auto, unfolding(crate::specs::JumpTable::signed_baseline))]
-fn signed_baseline(index: u8, limit: u32, ins: Ins) -> Answer
+fn signed_baseline(
+    index: u8,
+    limit: u32,
+    ins: Ins,
+) -> Result<(JumpTableStateArm, Option<JumpTable>), Refusal>
     ensures { result ≡ signed_baseline index limit ins }
 {
     if is_zero_compare(ins, index) {
@@ -181,12 +196,12 @@ fn is_zero_compare(ins: Ins, index: u8) -> bool
 #[tactic(auto, unfolding(crate::specs::JumpTable::jump_at))]
 fn jump_at(
     stay: JumpTableStateArm,
-    cond: u8,
+    cond: Cond,
     index: u8,
     limit: u32,
     address: u32,
     ins: Ins,
-) -> Answer
+) -> Result<(JumpTableStateArm, Option<JumpTable>), Refusal>
     ensures { result ≡ jump_at stay cond index limit address ins }
 {
     if is_jump(ins, cond, index) {
@@ -200,7 +215,11 @@ fn jump_at(
 
 // A table is current up to its last entry.
 #[tactic(auto, unfolding(crate::specs::JumpTable::valid_table))]
-fn valid_table(table_address: u32, limit: u32, address: u32) -> Answer
+fn valid_table(
+    table_address: u32,
+    limit: u32,
+    address: u32,
+) -> Result<(JumpTableStateArm, Option<JumpTable>), Refusal>
     ensures { result ≡ valid_table table_address limit address }
 {
     // A wider sum, since it is only compared: nothing is refused here.

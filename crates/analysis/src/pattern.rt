@@ -3,21 +3,9 @@ ghost use Rattle.std.specs.Prelude.{◌≡◌};
 ghost use Rattle.analysis.specs.Pattern.{is_when, is_data, is_register, is_lsl, is_scaled, is_pre, by_itself, by_lsr};
 
 use arm::Ins;
-use classes::{AddrLdrStr, Class, LdrStrOffset, Op2, ShiftOp};
+use classes::{AddrLdrStr, Class, Cond, LdrStrOffset, Op2, ShiftOp};
 
-// Conditions and registers stay numbers, as the fields of an instruction are.
-pub const MI: u8 = 4;
-
-pub const HI: u8 = 8;
-
-pub const LS: u8 = 9;
-
-pub const GE: u8 = 10;
-
-pub const GT: u8 = 12;
-
-pub const AL: u8 = 14;
-
+// Registers stay numbers, as the fields of an instruction are.
 pub const IP: u8 = 12;
 
 pub const SP: u8 = 13;
@@ -26,14 +14,14 @@ pub const LR: u8 = 14;
 
 pub const PC: u8 = 15;
 
-#[tactic(auto, using(classes::proofs::Numbers::same_class))]
-pub fn is_when(ins: Ins, class: Class, cond: u8) -> bool
+#[tactic(auto, using(classes::proofs::Numbers::same_class, classes::proofs::Conds::same_cond))]
+pub fn is_when(ins: Ins, class: Class, cond: Cond) -> bool
     ensures { result ≡ is_when ins class cond }
 {
     ins.class == class && ins.cond == cond
 }
 
-pub fn is_data(ins: Ins, class: Class, cond: u8, s: bool) -> bool
+pub fn is_data(ins: Ins, class: Class, cond: Cond, s: bool) -> bool
     ensures { result ≡ is_data ins class cond s }
 {
     is_when(ins, class, cond) && ins.s == s

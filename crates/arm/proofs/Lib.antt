@@ -1,3 +1,4 @@
--- The decoder beside the manual.
+-- The decoder beside the manual, and the number of a condition.
+pub mod ConditionLaws
 pub mod ManualLaws
 pub mod StackLaws

@@ -7,7 +7,7 @@ ghost use Rattle.std.specs.Prelude.{◌≡◌};
 ghost use Rattle.arm.specs.Naming.{class_of};
 ghost use Rattle.arm.specs.Ins.{decode_of, is_conditional};
 
-use classes::{AddrLdrStr, Class, LdmStmMode, Op2, fields};
+use classes::{AddrLdrStr, Class, Cond, LdmStmMode, Op2, fields};
 use encodings::encoding;
 use modes::operands;
 use regsets::sets;
@@ -18,7 +18,7 @@ use regsets::sets;
 #[derive(Clone, Copy)]
 pub struct Ins {
     pub class: Class,
-    pub cond: u8,
+    pub cond: Cond,
     pub s: bool,
     pub rd: u8,
     pub rn: u8,
@@ -34,11 +34,12 @@ pub struct Ins {
 }
 
 impl Ins {
-    // A condition field other than 1110 and 1111.
+    // A condition other than 1110 and 1111.
+    #[tactic(auto, unfolding(classes::specs::Cond::cond_no))]
     pub fn is_conditional(self) -> bool
         ensures { result ≡ is_conditional self.cond }
     {
-        self.cond < 14
+        !matches!(self.cond, Cond::Al | Cond::Nv)
     }
 }
 
@@ -60,7 +61,7 @@ pub fn decode(word: u32, address: u32) -> Ins
     let class = naming::name(encoding, word);
     Ins {
         class,
-        cond: (word >> 28) as u8,
+        cond: fields::cond(word),
         s: fields::bit(word, 20),
         rd: fields::rd(word),
         rn: fields::rn(word),

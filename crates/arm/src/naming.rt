@@ -28,6 +28,7 @@ pub fn name(class: Class, word: u32) -> Class
     }
 }
 
+// The name of a move that shifts. No `impl From<ShiftOp> for Class`: a shift is no class, as `Rrx` shows, and the rules for names stand here.
 #[tactic(auto, unfolding(crate::specs::Naming::shift_name))]
 fn shift_name(op: ShiftOp) -> Class
     ensures { result ≡ shift_name op }

@@ -6,9 +6,10 @@ use Rattle.arm.specs.declared.Ins.{Ins}
 use Rattle.arm.specs.Ins.{is_conditional}
 use Rattle.base.specs.Choice.{pick, both, either}
 use Rattle.predicates.specs.Predicates.{is_branch}
+use Rattle.predicates.specs.declared.Mode.TheVariants.{Arm}
 use Rattle.rows.specs.Map.{Held, map_in, stands-in}
 use Rattle.walk.specs.declared.Machines.{Machines}
-use Rattle.walk.specs.declared.Options.{Options}
+use Rattle.context.specs.declared.Module.{Module}
 use Rattle.std.specs.Prelude.{Some}
 use Rattle.context.specs.declared.State.{State}
 use Rattle.context.specs.declared.Stepped.{Stepped}
@@ -40,10 +41,10 @@ module _ (size : ℕ) (is_called : Bool) (s : State) (l : World) where
 
 -- a tail call, and the end
 pub tail-call : (i : Ins) (s : State) (word : ℕ) (l : World) {end : ℕ} {t : State} {r : Stepped}
-    → t ≡ putting (Some (record { word = word; destination = i.target; mode = arm })) s → r ≡ record { then = Ends end; state = t } → Holds s.counts l
+    → t ≡ putting (Some (record { word = word; destination = i.target; mode = Arm })) s → r ≡ record { then = Ends end; state = t } → Holds s.counts l
     → Comes (has_place s.progress.address l) s.progress.address s.call r l (call_to i word arm (context_of s l) ▸ ends end)
 tail-call i s word l {end} te re h =
-    go_on (ends end) refl (call-comes i s word arm l (ap onwards te) h)
+    go_on (ends end) refl (call-comes i s word Arm l (ap onwards te) h)
     (settled (rw re (record { stays = refl; call = refl; holds = rw te h; says = refl })))
 
 -- ---- where a branch goes
@@ -79,10 +80,10 @@ pub at-branch : (s : State) (size : ℕ) {t : State} {m : Machines} {labels pool
     → Held label_row t.counts.labels labels × Held pool_row t.counts.pools pools × (t.progress.address + size < 2 ^ 32)
 at-branch s size e h = rw e h
 
-module _ (o : Options) (i : Ins) (s : State) (word size : ℕ) (inside : Bool) (starts labels pools : List ℕ) {t : State}
+module _ (given : Module) (i : Ins) (s : State) (word size : ℕ) (inside : Bool) (labels pools : List ℕ) {t : State}
     (te : t ≡ machined (function_branch_to (function_branch s.machines.function_branch i) s.machines) s) where
   abbrev world : List ℕ → World → World
-  world x l = starts_in starts (options_in o (labels_in x (pools_in pools l)))
+  world x l = starts_in given.starts.now (options_in given.options (labels_in x (pools_in pools l)))
 
   pub branch-not : {r : Stepped} → is_branch i ≡ false → r ≡ onwards t → Puts (world labels) (world labels) (branch i word size inside) s r
   unfolding branch branched
@@ -90,9 +91,9 @@ module _ (o : Options) (i : Ins) (s : State) (word size : ℕ) (inside : Bool) (
 
   abbrev is_label : Bool → Bool
   is_label in_module =
-      both in_module (not (either (is_function_branch t.machines.function_branch) (stands-in (map_in 1 (length starts) starts) i.target)))
+      both in_module (not (either (is_function_branch t.machines.function_branch) (stands-in (map_in 1 (length given.starts.now) given.starts.now) i.target)))
 
-  module _ {r : Stepped} {in_module : Bool} (q : is_branch i ≡ true) (m : in_module ≡ is_in o.module_start o.module_end i.target) where
+  module _ {r : Stepped} {in_module : Bool} (q : is_branch i ≡ true) (m : in_module ≡ is_in given.options.module_start given.options.module_end i.target) where
     by : {after : List ℕ} {label last : Bool} → label ≡ is_label in_module → last ≡ both in_module (is_last i inside)
         → Puts (world labels) (world after) (goes_by i word size inside label last) t r
         → Puts (world labels) (world after) (branch i word size inside) s r
@@ -104,7 +105,7 @@ module _ (o : Options) (i : Ins) (s : State) (word size : ℕ) (inside : Bool) (
       pub branch-label : {after : List ℕ} → label ≡ true
           → Does (λ l. labels_in labels (pools_in pools l)) (λ l. labels_in after (pools_in pools l)) (handle_label i size inside) t r
           → Puts (world labels) (world after) (branch i word size inside) s r
-      branch-label y d = by e refl (rw y (λ l h. settled (d (starts_in starts (options_in o l)) h)))
+      branch-label y d = by e refl (rw y (λ l h. settled (d (starts_in given.starts.now (options_in given.options l)) h)))
 
       module _ {conditional last : Bool} (n : label ≡ false) (ce : conditional ≡ is_conditional i.cond)
           (f : last ≡ both in_module (both (not conditional) (not inside))) where

@@ -5,8 +5,11 @@ use Rattle.base.proofs.Prelude.{eqb, ltb, eqb→eq, eq-eqb, ne_eqb, le-ltb, ltb-
 use Rattle.arm.specs.Ins.{decode_of}
 use Rattle.arm.specs.Manual.{IsPush}
 use Rattle.arm.specs.Naming.{class_of, regs_of, is_of_one}
+use Rattle.arm.proofs.ConditionLaws.{condition-number}
 use Rattle.arm.proofs.StackLaws.{push-fields, fields-push}
 use Rattle.base.specs.Choice.{pick, both}
+use Rattle.std.specs.Prelude.{Option, Some, None, MatchOption}
+use Rattle.context.specs.Blocks.{is_entry_word}
 use Rattle.classes.specs.declared.Class.TheVariants.{Push}
 use Rattle.classes.specs.Class.{class_no, is}
 use Rattle.classes.proofs.Numbers.{same_number}
@@ -45,10 +48,10 @@ always w h e n = ⊎_elim (λ q. sym q) (λ l. absurd (n (omega arith))) (eq-or-
 -- ---- the entry instructions
 
 module _ (w a : ℕ) where
-  entry-is : is_entry_instruction (decode_of w a)
+  entry-is : w < 2 ^ 32 → is_entry_instruction (decode_of w a)
       ≡ pick (ltb (w / 0x1000_0000) 14) false (both (is (class_of w) Push) (has_lr (regs_of (class_of w) w)))
   unfolding is_entry_instruction decode_of
-  entry-is = refl
+  entry-is h = rw (condition-number w a h) refl
 
   -- STMDB SP!, by its list
   pub entry-block : w / 0x1_0000 ≡ 0xE92D → eqb (w / 0x4000 % 2) 1 ≡ is_entry_instruction (decode_of w a)
@@ -56,7 +59,7 @@ module _ (w a : ℕ) where
   entry-block e =
       let q : w % 0x1_0000 / 0x4000 % 2 ≡ w / 0x4000 % 2 = omega arith in
       sym
-      (entry-is
+      (entry-is (omega arith)
       ∙ rw (
         le-ltb (w / 0x1000_0000) 14 (omega arith),
         fields-push w (record { condition = λ f. omega arith; transfer = inl (ap (λ (n : ℕ). n % 0x1000) e) }),
@@ -67,7 +70,7 @@ module _ (w a : ℕ) where
   -- STR LR, [SP, #-4]!, and no other word
   pub entry-single : w < 2 ^ 32 → (w / 0x1_0000 ≡ 0xE92D → ⊥) → eqb w 0xE52D_E004 ≡ is_entry_instruction (decode_of w a)
   unfolding class_no
-  entry-single h n = sym (entry-is ∙ when (ltb (w / 0x1000_0000) 14) refl)
+  entry-single h n = sym (entry-is h ∙ when (ltb (w / 0x1000_0000) 14) refl)
     where
       lists : w / 0x1_0000 ≡ 0xE52D → w % 0x1000 ≡ 4 → (b : Bool) → has_lr (2 ^ (w / 0x1000 % 16)) ≡ b → b ≡ eqb w 0xE52D_E004
       lists e f true q =
@@ -96,3 +99,9 @@ module _ (w a : ℕ) where
           → pick b false (both (is (class_of w) Push) (has_lr (regs_of (class_of w) w))) ≡ eqb w 0xE52D_E004
       when true e = sym (ne_eqb w 0xE52D_E004 (λ g. omega (arith, ltb-true (w / 0x1000_0000) 14 e)))
       when false e = named (ltb-false (w / 0x1000_0000) 14 e) (is (class_of w) Push) refl
+
+-- ---- of a word that may be missing
+
+pub entry-at : (o : Option ℕ) (a : ℕ) {b : Bool} → MatchOption o (b ≡ false) (λ w. (a : ℕ) → b ≡ is_entry_word (Some w) a) → b ≡ is_entry_word o a
+entry-at None a e = e
+entry-at (Some w) a e = e a

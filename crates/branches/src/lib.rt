@@ -14,19 +14,15 @@ ghost use Rattle.context.specs.State.{Does, Puts, PutsIf, ToldOfCalls, same, mac
 use arm::Ins;
 use base::refusal::Refusal;
 use base::word::word_from;
-use context::{NewCall, State, Stepped, assign, call_to, is_in};
+use context::{Module, NewCall, Parsed, Starts, State, Stepped, assign, call_to, is_in};
 use labels::handle_label;
 use predicates::Mode;
-use rows::search::contains;
-use walk::{Options, Progress};
+use walk::Progress;
 
 pub fn branch_outside(s: State, ins: Ins) -> Stepped
     ensures { Does same same (branch_outside ins) s result }
 {
-    if predicates::is_branch(ins) {
-        if is_in(0x01FF_8000, 0x0300_0000, ins.target) {
-            return assign::on(s);
-        }
+    if predicates::is_branch(ins) && !is_in(0x01FF_8000, 0x0300_0000, ins.target) {
         return assign::refuse(s, Refusal::BranchOutside);
     }
     assign::on(s)
@@ -37,103 +33,72 @@ fn is_entry_word(word: u32) -> bool
     ensures { (a : ℕ) → result ≡ is_entry_word (Some word) a }
 {
     if word / 0x1_0000 == 0xE92D {
-        return word / 0x4000 % 2 == 1;
+        word / 0x4000 % 2 == 1
+    } else {
+        word == 0xE52D_E004
     }
-    word == 0xE52D_E004
 }
 
 fn is_entry_at(code: &[u8], base: u32, address: u32) -> bool
     ensures { result ≡ is_entry_at code.now base address }
 {
-    match word_from(code, base, address) {
-        Some(word) => is_entry_word(word),
-        None => false,
-    }
+    word_from(code, base, address).is_some_and(is_entry_word)
 }
 
 // is_long_branch_destination of the address behind the instruction
-fn is_long_branch(base: u32, end: u32, last_pool_address: u32, is_called: bool, code: &[u8]) -> bool
-    ensures { result ≡ both (ltb end last_pool_address) (both is_called (not (is_entry_at code.now base end))) }
+#[tactic(auto, using(std::proofs::lemmas::Bool::Decides::nat_tests))]
+fn is_long_branch(m: Module, end: u32, last_pool_address: u32, is_called: bool) -> bool
+    ensures { result ≡ both (ltb end last_pool_address) (both is_called (not (is_entry_at m.entry.code.now m.entry.options.base end))) }
 {
-    if end < last_pool_address {
-        if is_called {
-            return !is_entry_at(code, base, end);
-        }
-    }
-    false
+    end < last_pool_address && is_called && !is_entry_at(m.code, m.options.base, end)
 }
 
+#[tactic(auto, using(std::proofs::lemmas::Bool::Decides::nat_tests))]
 fn is_tail_call(start: u32, end: u32, ins: Ins) -> bool
     ensures { result ≡ both (is_branch ins) (either (ltb ins.target start) (leb end ins.target)) }
 {
-    if predicates::is_branch(ins) {
-        if ins.target < start {
-            return true;
-        }
-        return end <= ins.target;
-    }
-    false
+    predicates::is_branch(ins) && (ins.target < start || end <= ins.target)
 }
 
-// `is_called_next` is asked of the calls before (`ToldOfCalls`).
+// `is_called_next` is asked of the calls before (`ToldOfCalls`). No struct of it with the source's two locals, `inside` and `returns`: it would
+// be made once and taken apart in the next call.
 pub fn final_return(
-    o: Options,
+    m: Module,
     s: State,
-    word: u32,
-    size: u32,
-    ins: Ins,
+    parsed: Parsed,
     inside: bool,
     returns: bool,
     is_called_next: bool,
-    code: &[u8],
 ) -> Stepped
-    requires { s.progress.address + size < 2 ^ 32 }
-    ensures { PutsIf (ToldOfCalls size inside returns is_called_next s) (λ l. code_in code.now (options_in o l)) (λ l. code_in code.now (options_in o l)) (final_return ins word size inside returns) s result }
+    requires { s.progress.address + parsed.size < 2 ^ 32 }
+    ensures { PutsIf (ToldOfCalls parsed.size inside returns is_called_next s) (λ l. code_in m.entry.code.now (options_in m.entry.options l)) (λ l. code_in m.entry.code.now (options_in m.entry.options l)) (final_return parsed.ins parsed.word parsed.size inside returns) s result }
 {
-    if inside {
+    if inside || !returns {
         return assign::on(s);
     }
-    if !returns {
-        return assign::on(s);
-    }
-    let end = s.progress.address + size;
-    if is_long_branch(
-        o.base,
-        end,
-        s.progress.last_pool_address,
-        is_called_next,
-        code,
-    ) {
+    let end = s.progress.address + parsed.size;
+    if is_long_branch(m, end, s.progress.last_pool_address, is_called_next) {
         return assign::on(assign::raise(s, end));
     }
-    if is_tail_call(s.progress.start, end, ins) {
+    if is_tail_call(s.progress.start, end, parsed.ins) {
         let call = NewCall {
-            word,
-            destination: ins.target,
-            mode: Mode::Arm as u32,
+            word: parsed.word,
+            destination: parsed.ins.target,
+            mode: Mode::Arm,
         };
         return assign::end(assign::with_call(s, Some(call)), end);
     }
     assign::end(s, end)
 }
 
+#[tactic(auto, using(std::proofs::lemmas::Bool::Decides::nat_tests))]
 fn is_entry_after_branch(p: Progress, ins: Ins, inside: bool) -> bool
     ensures { result ≡ both (ltb p.start p.address) (both (is_entry_instruction ins) (both p.previous.is_branch (either inside p.previous.is_conditional))) }
 {
-    let previous = p.previous;
-    if p.address <= p.start {
-        return false;
-    }
-    if !predicates::is_entry_instruction(ins) {
-        return false;
-    }
-    if !previous.is_branch {
-        return false;
-    }
-    if inside {
-        return true;
-    }
-    previous.is_conditional
+    p.start < p.address
+        && predicates::is_entry_instruction(ins)
+        && p.previous.is_branch
+        && (inside || p.previous.is_conditional)
 }
 
 pub fn entry_after_branch(s: State, ins: Ins, inside: bool) -> Stepped
@@ -150,76 +115,61 @@ pub fn entry_after_branch(s: State, ins: Ins, inside: bool) -> Stepped
 fn branched(s: State, ins: Ins) -> State
     ensures { result ≡ machined (function_branch_to (function_branch s.machines.function_branch ins) s.machines) s }
 {
-    let m = s.machines;
-    let machine = m.function_branch;
-    assign::function_branch_to(s, machine.handle(ins))
+    assign::function_branch_to(s, s.machines.function_branch.handle(ins))
 }
 
 // A branch goes to a label where the destination is in the module and no other function's.
+#[tactic(auto, using(std::proofs::lemmas::Bool::Decides::nat_tests))]
 fn is_label(s: State, ins: Ins, in_module: bool, starts: &[u32]) -> bool
     requires { Held 1 (length starts.now) starts.now }
     ensures { result ≡ both in_module (not (either (is_function_branch s.machines.function_branch) (stands-in (map_in 1 (length starts.now) starts.now) ins.target))) }
 {
-    let m = s.machines;
-    let machine = m.function_branch;
-    if !in_module {
-        return false;
-    }
-    if machine.is_function_branch() {
-        return false;
-    }
-    !contains(starts, 1, starts.len(), ins.target)
+    in_module
+        && !s.machines.function_branch.is_function_branch()
+        && !Starts::new(starts, starts.len()).contains(ins.target)
 }
 
 // One to another function is the last instruction, where that is in the module and no condition passes the branch over.
 fn is_last(in_module: bool, conditional: bool, inside: bool) -> bool
     ensures { result ≡ both in_module (both (not conditional) (not inside)) }
 {
-    if !in_module {
-        return false;
-    }
-    if conditional {
-        return false;
-    }
-    !inside
+    in_module && !conditional && !inside
 }
 
 // The label is asked for first and the end before the call, so that each arm stands once; the source asks for the module, another function and
 // the label in turn.
 pub fn branch(
-    o: Options,
+    m: Module,
     s: State,
-    word: u32,
-    size: u32,
-    ins: Ins,
+    parsed: Parsed,
     inside: bool,
-    starts: &[u32],
     labels: &mut [u32],
     pools: &[u32],
 ) -> Stepped
-    requires { Held 1 (length starts.now) starts.now × Held label_row s.counts.labels labels.old × Held pool_row s.counts.pools pools.now × (s.progress.address + size < 2 ^ 32) }
-    ensures { Puts (λ l. starts_in starts.now (options_in o (labels_in labels.old (pools_in pools.now l)))) (λ l. starts_in starts.now (options_in o (labels_in labels.new (pools_in pools.now l)))) (branch ins word size inside) s result }
+    requires { Held 1 (length m.starts.now) m.starts.now × Held label_row s.counts.labels labels.old × Held pool_row s.counts.pools pools.now × (s.progress.address + parsed.size < 2 ^ 32) }
+    ensures { Puts (λ l. starts_in m.entry.starts.now (options_in m.entry.options (labels_in labels.old (pools_in pools.now l)))) (λ l. starts_in m.entry.starts.now (options_in m.entry.options (labels_in labels.new (pools_in pools.now l)))) (branch parsed.ins parsed.word parsed.size inside) s result }
 {
+    let ins = parsed.ins;
     let t = branched(s, ins);
     if !predicates::is_branch(ins) {
         return assign::on(t);
     }
-    let in_module = is_in(o.module_start, o.module_end, ins.target);
+    let in_module = is_in(m.options.module_start, m.options.module_end, ins.target);
     let conditional = ins.is_conditional();
-    if is_label(t, ins, in_module, starts) {
-        return handle_label(t, size, ins, inside, labels, pools);
+    if is_label(t, ins, in_module, m.starts) {
+        return handle_label(t, parsed, inside, labels, pools);
     }
     if is_last(in_module, conditional, inside) {
-        return assign::end(t, s.progress.address + size);
+        return assign::end(t, s.progress.address + parsed.size);
     }
-    call_to(t, word, ins, Mode::Arm as u32)
+    call_to(t, parsed, Mode::Arm)
 }
 
-pub fn function_call(s: State, word: u32, ins: Ins) -> Stepped
-    ensures { Puts same same (function_call ins word) s result }
+pub fn function_call(s: State, parsed: Parsed) -> Stepped
+    ensures { Puts same same (function_call parsed.ins parsed.word) s result }
 {
-    match predicates::called(ins) {
-        Some(mode) => call_to(s, word, ins, mode as u32),
+    match predicates::called(parsed.ins) {
+        Some(mode) => call_to(s, parsed, mode),
         None => assign::on(s),
     }
 }

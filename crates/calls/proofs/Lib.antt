@@ -1,3 +1,3 @@
+pub mod DestinationLaws
 pub mod RecordLaws
-pub mod ToldLaws
-pub mod EditLaws
+pub mod EntryLaws

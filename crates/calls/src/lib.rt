@@ -1,16 +1,19 @@
-// A list of calls in a slice of records that a host lends. The records' numbers one after another are the rows of which the
-// definitions speak.
-//
-// Two functions pass over the records: `tell`, the lookup, and `put`, the insert. The rest is left to functions over numbers.
+// A list of calls in a slice that a host lends, of numbers or of records. The numbers one after another are the rows of which the definitions
+// speak, so a function over a `CallList` serves hosts of either form.
 #![tactic(auto)]
 
-ghost use Rattle.std.specs.Prelude.{◌≡◌};
-ghost use Rattle.base.specs.Choice.{pick};
-ghost use Rattle.calls.specs.Records.{edited, clearing, is_none, seen_by, Tells, Enters};
+mod numbers;
+mod records;
+
+ghost use Rattle.std.specs.Prelude.{◌≡◌, List, ℕ, length, replicate};
+ghost use Rattle.context.specs.Context.{call_row};
+ghost use Rattle.context.specs.Blocks.{is_destination};
+ghost use Rattle.rows.specs.Map.{map_in, in_order, Held, Entering};
+ghost use Rattle.calls.specs.Records.{row_of};
 
 use base::refusal::Refusal;
 
-#[derive(Clone, Copy)]
+#[derive(Clone, Copy, PartialEq, Eq, Default)]
 pub struct Call {
     pub address: u32,
     pub word: u32,
@@ -18,155 +21,43 @@ pub struct Call {
     pub mode: u32,
 }
 
-// What is asked of a list of `count` calls for an address, and what the records tell of it, from the last to the first.
-#[derive(Clone, Copy)]
-pub struct Told {
-    pub count: usize,
-    pub address: u32,
-    // how many records there are
-    pub places: usize,
-    // the address of the call that was passed last
-    pub next: u32,
-    // there is room for the count, the calls ascend by address, and zeros follow them
-    pub is_ordered: bool,
-    // a call goes to the instruction after the address
-    pub is_called: bool,
-    // where a call from the address stands or belongs, and whether it stands there
-    pub at: usize,
-    pub is_held: bool,
-}
+// Every method but `in_order` and `zero` requires that the list holds a map of `count` calls.
+pub trait CallList {
+    // the list's numbers
+    ghost numbers: { Self → List ℕ };
 
-// A change of the records from `from` to `end`: `call` stands at `from`, and each that stood there moves up by one; or, where
-// nothing moves, `call` stands at every place.
-#[derive(Clone, Copy)]
-pub struct Edit {
-    pub from: usize,
-    pub end: usize,
-    pub call: Call,
-    pub moves: bool,
-}
+    // that it is the same slice, with whatever values
+    ghost is_same: { Self → Self → Type 0 };
 
-// What entering a call left, and the change that does it.
-#[derive(Clone, Copy)]
-pub struct Entry {
-    pub entered: Result<usize, Refusal>,
-    pub edit: Edit,
-}
+    // Whether the list holds a map of `count` calls.
+    fn in_order(&self, count: usize) -> bool
+        ensures { result ≡ in_order call_row count (numbers self.now) };
 
-fn is_none(c: Call) -> bool
-    ensures { result ≡ is_none c }
-{
-    (c.address == 0) & (c.word == 0) & (c.destination == 0) & (c.mode == 0)
-}
+    // function_calls.values().any(..): one goes to the address.
+    fn is_destination(&self, count: usize, address: u32) -> bool
+        requires { Held call_row count (numbers self.now) }
+        ensures { result ≡ is_destination address (map_in call_row count (numbers self.now)) };
 
-// What the record at place `i` tells, with those after it.
-fn seen(t: Told, i: usize, c: Call) -> Told
-    ensures { result ≡ seen_by t i c }
-{
-    let mut s = t;
-    if t.count <= i {
-        s.is_ordered = is_none(c) & t.is_ordered;
-        s.at = i;
-        return s;
-    }
-    s.next = c.address;
-    s.is_ordered = ((t.count <= i + 1) | (c.address < t.next)) & t.is_ordered;
-    s.is_called = (c.destination as u64 == t.address as u64 + 4) | t.is_called;
-    if c.address < t.address {
-        return s;
-    }
-    s.at = i;
-    s.is_held = c.address == t.address;
-    s
-}
+    // function_calls.insert(..). A held address is replaced in place, and needs no free place.
+    fn enter(&mut self, count: usize, call: Call) -> Result<usize, Refusal>
+        requires { Held call_row count (numbers self.old) }
+        ensures same { is_same self.old self.new }
+        ensures places { length (numbers self.new) ≡ length (numbers self.old) }
+        ensures entered { Entering call_row count (numbers self.old) (row_of call) result (numbers self.new) };
 
-// The lookup: what all records tell of a list of `count` calls for an address.
-pub fn tell(calls: &[Call], count: usize, address: u32) -> Told
-    ensures { Tells calls.now count address result }
-{
-    let mut i = calls.len();
-    let mut t = Told {
-        count,
-        address,
-        places: i,
-        next: 0,
-        is_ordered: count <= i,
-        is_called: false,
-        at: i,
-        is_held: false,
-    };
-    while 0 < i {
-        i = i - 1;
-        t = seen(t, i, calls[i]);
-    }
-    t
-}
+    // The calls zeroed: every place is zero, since those after them were.
+    fn clear(&mut self, count: usize)
+        requires { Held call_row count (numbers self.old) }
+        ensures same { is_same self.old self.new }
+        ensures zeros { numbers self.new ≡ replicate (length (numbers self.old)) 0 };
 
-// Zeros in the first records, up to `end`.
-pub fn clear(end: usize) -> Edit
-    ensures { result ≡ clearing end }
-{
-    Edit {
-        from: 0,
-        end,
-        call: Call {
-            address: 0,
-            word: 0,
-            destination: 0,
-            mode: 0,
-        },
-        moves: false,
-    }
-}
+    // Zeros in every place.
+    fn zero(&mut self)
+        ensures same { is_same self.old self.new }
+        ensures zeros { numbers self.new ≡ replicate (length (numbers self.old)) 0 };
 
-// The last place that an insert writes: the held call's, or the first behind the calls.
-fn last_of(t: Told) -> usize
-    ensures { result ≡ pick t.is_held t.at t.count }
-{
-    if t.is_held { t.at } else { t.count }
-}
+    // it is the same list where nothing was done, and after two calls in turn
+    ghost unmoved: { (s : Self) → is_same s s };
 
-// How many calls there are once a place up to `end` is written.
-fn count_of(t: Told, end: usize) -> usize
-    ensures { result ≡ pick t.is_held t.count end }
-{
-    if t.is_held { t.count } else { end }
-}
-
-// A call from the address that was asked for is entered: it replaces the one that stands there, or needs a free place.
-pub fn enter(t: Told, call: Call) -> Entry
-    ensures { Enters t call result }
-{
-    let last = last_of(t);
-    if t.places <= last {
-        return Entry {
-            entered: Err(Refusal::ListFull),
-            edit: clear(0),
-        };
-    }
-    let end = last + 1;
-    Entry {
-        entered: Ok(count_of(t, end)),
-        edit: Edit {
-            from: t.at,
-            end,
-            call,
-            moves: true,
-        },
-    }
-}
-
-// The insert, or any other change of the records.
-pub fn put(calls: &mut [Call], e: Edit)
-    ensures { calls.new ≡ edited e calls.old }
-{
-    let end = e.end.min(calls.len());
-    let mut call = e.call;
-    for i in e.from..end {
-        let next = calls[i];
-        calls[i] = call;
-        if e.moves {
-            call = next;
-        }
-    }
+    ghost twice: { (s t u : Self) → is_same s t → is_same t u → is_same s u };
 }

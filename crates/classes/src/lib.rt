@@ -1,10 +1,11 @@
-// What a decoder's answers are made of: the classes, the operands and the forms, and the number of each class.
+// What a decoder's answers are made of: the classes, the conditions, the operands and the forms, and the number of each class and condition.
 #![tactic(auto)]
 
 pub mod fields;
 
 ghost use Rattle.std.specs.Prelude.{◌≡◌};
 ghost use Rattle.classes.specs.Class.{class_no};
+ghost use Rattle.classes.specs.Cond.{cond_no};
 
 // The manual's ARM instructions in the order of their printed names, then document 01's own names.
 #[derive(Clone, Copy, PartialEq, Eq)]
@@ -92,6 +93,37 @@ impl From<Class> for u8 {
     #[tactic(auto, using(crate::proofs::Numbers::numbers))]
     fn from(class: Class) -> u8 {
         class as u8
+    }
+}
+
+// A condition, in the order of the numbers that its field has.
+#[derive(Clone, Copy, PartialEq, Eq)]
+pub enum Cond {
+    Eq,
+    Ne,
+    Hs,
+    Lo,
+    Mi,
+    Pl,
+    Vs,
+    Vc,
+    Hi,
+    Ls,
+    Ge,
+    Lt,
+    Gt,
+    Le,
+    Al,
+    Nv,
+}
+
+// A condition's number: what its field has.
+impl From<Cond> for u8 {
+    ghost from_gives = { λ cond n. n ≡ cond_no cond };
+
+    #[tactic(auto, using(crate::proofs::Conds::numbers))]
+    fn from(cond: Cond) -> u8 {
+        cond as u8
     }
 }
 

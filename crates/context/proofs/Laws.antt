@@ -21,6 +21,8 @@ use Rattle.context.specs.Context.{Context, Maps, Step, on, refuses, ◌▸◌, e
 use Rattle.context.specs.Blocks.{call_to}
 use Rattle.context.specs.State.{World, Holds, Settles, Comes, context_of, called, read, is_on, placed, has_place, putting, labels_in, pools_in, jump_tables_in, inline_tables_in, registers_in, count_labels, count_pools, count_jump_tables, count_inline_tables}
 use Rattle.arm.specs.declared.Ins.{Ins}
+use Rattle.predicates.specs.declared.Mode.{Mode}
+use Rattle.predicates.specs.Predicates.{mode_no}
 
 -- ---- insertions
 
@@ -151,28 +153,28 @@ again a r q (b ∷ bs) = step (ltb (key_of b) a) (eqb (key_of b) a) refl refl (a
 
 put-over : (k : Option NewCall) (a : ℕ) (r : List ℕ) (m : List (List ℕ)) → inserted key_of (a ∷ r) (called k a m) ≡ inserted key_of (a ∷ r) m
 put-over None a r m = refl
-put-over (Some k) a r m = again a r (k.word ∷ k.destination ∷ k.mode ∷ []) m
+put-over (Some k) a r m = again a r (k.word ∷ k.destination ∷ mode_no k.mode ∷ []) m
 
 as_long : (a : ℕ) (r : List ℕ) (places : ℕ) (m : List (List ℕ)) → fits call_row places (inserted key_of (a ∷ r) m) ≡ fits call_row places (inserted key_of (a ∷ []) m)
 as_long a r places m = rw (inserted-length key_of (a ∷ r) m, inserted-length key_of (a ∷ []) m)
 
-module _ (i : Ins) (s : State) (word mode : ℕ) (l : World) where
-  room : fits call_row l.given.places.calls (inserted key_of (s.progress.address ∷ word ∷ i.target ∷ mode ∷ []) (called s.call s.progress.address l.calls))
+module _ (i : Ins) (s : State) (word : ℕ) (mode : Mode) (l : World) where
+  room : fits call_row l.given.places.calls (inserted key_of (s.progress.address ∷ word ∷ i.target ∷ mode_no mode ∷ []) (called s.call s.progress.address l.calls))
       ≡ has_place s.progress.address l
   room =
-      as_long s.progress.address (word ∷ i.target ∷ mode ∷ []) l.given.places.calls (called s.call s.progress.address l.calls)
+      as_long s.progress.address (word ∷ i.target ∷ mode_no mode ∷ []) l.given.places.calls (called s.call s.progress.address l.calls)
       ∙ ap (fits call_row l.given.places.calls) (put-over s.call s.progress.address [] l.calls)
 
   pub call-put : has_place s.progress.address l ≡ true
-      → call_to i word mode (context_of s l) ≡ on (context_of (putting (Some (record { word = word; destination = i.target; mode = mode })) s) l)
-  call-put e = rw (room, e, put-over s.call s.progress.address (word ∷ i.target ∷ mode ∷ []) l.calls)
+      → call_to i word (mode_no mode) (context_of s l) ≡ on (context_of (putting (Some (record { word = word; destination = i.target; mode = mode })) s) l)
+  call-put e = rw (room, e, put-over s.call s.progress.address (word ∷ i.target ∷ mode_no mode ∷ []) l.calls)
 
-  pub call-full : has_place s.progress.address l ≡ false → call_to i word mode (context_of s l) ≡ refuses ListFull 0
+  pub call-full : has_place s.progress.address l ≡ false → call_to i word (mode_no mode) (context_of s l) ≡ refuses ListFull 0
   call-full e = rw (room, e)
 
   -- a call that is put is the source's call, or a refusal for want of a place
   pub call-comes : {r : Stepped} → r ≡ record { then = On; state = putting (Some (record { word = word; destination = i.target; mode = mode })) s } → Holds s.counts l
-      → Comes (has_place s.progress.address l) s.progress.address s.call r l (call_to i word mode (context_of s l))
+      → Comes (has_place s.progress.address l) s.progress.address s.call r l (call_to i word (mode_no mode) (context_of s l))
   call-comes e h = rw e (record { stays = refl; keeps = keeps s.call; holds = h; says = λ p. sym (call-put p); full = λ f t. call-full f })
     where
       keeps : (k : Option NewCall) → has_place s.progress.address l ≡ true → placed (has_place s.progress.address l) k ≡ true

@@ -1,9 +1,10 @@
 -- The five lent lists: a slice of rows for each map.
 -- Assumes nothing.
-use Rattle.std.specs.Prelude.{List, ℕ, length}
+use Rattle.std.specs.Prelude.{List, ℕ, ◌+◌, ◌≤◌, length}
 use Rattle.rows.specs.Map.{map_in, Held, encode}
 use Rattle.walk.specs.declared.Counts.{Counts}
 use Rattle.walk.specs.declared.Options.{Options}
+use Rattle.context.specs.declared.Module.{Module}
 use Rattle.context.specs.Context.{Maps, Given, label_row, pool_row, table_row, call_row}
 use Rattle.context.specs.Turn.{no_maps}
 
@@ -55,3 +56,12 @@ places_of l = record { labels = length l.labels; pools = length l.pools; jump_ta
 -- what a walk is given: the host's choices, the lists' places, the code, and the existing starts as a map
 abbrev pub given_by : Options → List ℕ → List ℕ → Lists → Given
 given_by o code starts l = record { options = o; places = places_of l; code = code; starts = map_in 1 (length starts) starts }
+
+-- the same of a module
+abbrev pub given_to : Module → Lists → Given
+given_to m l = given_by m.options m.code.now m.starts.now l
+
+-- a module whose code lies in the addresses of a program, and whose starts ascend
+pub record Sound (m : Module) : Type 0 where
+  pub fits : m.options.base + length m.code.now ≤ 0x0300_0000
+  pub ascend : Held 1 (length m.starts.now) m.starts.now

@@ -4,7 +4,7 @@ use Rattle.std.specs.Prelude.{◌≡◌, Option, Some, None, Bool, true, false, 
 use Rattle.arm.specs.declared.Ins.{Ins}
 use Rattle.base.specs.Choice.{pick, both}
 use Rattle.base.specs.declared.refusal.Refusal.TheVariants.{ListFull}
-use Rattle.predicates.specs.Predicates.{as_previous}
+use Rattle.predicates.specs.Predicates.{as_previous, mode_no}
 use Rattle.registers.specs.declared.Registers.{Registers}
 use Rattle.registers.specs.Registers.{forgotten, holding}
 use Rattle.rows.specs.Rows.{inserted}
@@ -14,6 +14,7 @@ use Rattle.walk.specs.declared.Machines.{Machines}
 use Rattle.walk.specs.declared.Options.{Options}
 use Rattle.walk.specs.declared.Progress.{Progress}
 use Rattle.context.specs.declared.Load.{Load}
+use Rattle.context.specs.declared.Module.{Module}
 use Rattle.context.specs.declared.NewCall.{NewCall}
 use Rattle.context.specs.declared.State.{State}
 use Rattle.context.specs.declared.Stepped.{Stepped}
@@ -93,6 +94,9 @@ code_in c l = given_in (record { options = l.given.options; places = l.given.pla
 abbrev pub starts_in : List ℕ → World → World
 starts_in x l = given_in (record { options = l.given.options; places = l.given.places; code = l.given.code; starts = map_in 1 (length x) x }) l
 
+abbrev pub module_in : Module → World → World
+module_in m l = given_in (record { options = m.options; places = l.given.places; code = m.code.now; starts = map_in 1 (length m.starts.now) m.starts.now }) l
+
 -- the slices hold maps of these counts, and have their places
 pub record Holds (n : Counts) (l : World) : Type 0 where
   pub labels : Held label_row n.labels l.labels
@@ -107,7 +111,7 @@ pub record Holds (n : Counts) (l : World) : Type 0 where
 -- the call that is to be put is in the map
 abbrev pub called : Option NewCall → ℕ → List (List ℕ) → List (List ℕ)
 called None a m = m
-called (Some k) a m = inserted key_of (a ∷ k.word ∷ k.destination ∷ k.mode ∷ []) m
+called (Some k) a m = inserted key_of (a ∷ k.word ∷ k.destination ∷ mode_no k.mode ∷ []) m
 
 abbrev pub context_of : State → World → Context
 context_of s l = record {

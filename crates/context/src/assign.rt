@@ -1,4 +1,5 @@
-// The assignments of a step's blocks to the walk's state, and what a block comes to.
+// The assignments of a step's blocks to the walk's state, and what a block comes to. Functions, not methods: they are the source's
+// assignments under the names of their definitions, and methods would say the same.
 ghost use Rattle.std.specs.Prelude.{◌≡◌};
 ghost use Rattle.context.specs.Context.{raising, table_to, pool_to, defining, moving, jump_table_to, function_branch_to, inline_table_to, illegal_code_to};
 ghost use Rattle.context.specs.State.{headed, progressed, machined, counted, putting, count_labels, count_pools, count_jump_tables, count_inline_tables, count_calls};

@@ -10,11 +10,14 @@ pub mod assign;
 ghost use Rattle.std.specs.Prelude.{◌≡◌, ◌+◌, ◌<◌, ◌^◌, ltb};
 ghost use Rattle.context.specs.Blocks.{is_in, call_to};
 ghost use Rattle.context.specs.State.{is_on, loaded_by, Puts, same, asks_calls, passes};
+ghost use Rattle.predicates.specs.Predicates.{mode_no};
 
 use arm::Ins;
 use base::refusal::Refusal;
+use predicates::Mode;
 use registers::Registers;
-use walk::{Counts, Machines, Progress};
+use rows::Rows;
+use walk::{Counts, Machines, Options, Progress};
 
 // The numbers in a row of each list. A label: address. A pool: address, value, mark. A table: address, size. A call: address, word,
 // destination, mode.
@@ -26,12 +29,39 @@ pub const TABLE_ROW: usize = 2;
 
 pub const CALL_ROW: usize = 4;
 
+pub type Labels<'a> = Rows<'a, LABEL_ROW>;
+
+pub type Pools<'a> = Rows<'a, POOL_ROW>;
+
+pub type Tables<'a> = Rows<'a, TABLE_ROW>;
+
+pub type Calls<'a> = Rows<'a, CALL_ROW>;
+
+// The starts of the known functions are addresses too.
+pub type Starts<'a> = Rows<'a, 1>;
+
+// What a walk is over: a host's choices, the module's code, and the starts of its known functions.
+#[derive(Clone, Copy)]
+pub struct Module<'a> {
+    pub options: Options,
+    pub code: &'a [u8],
+    pub starts: &'a [u32],
+}
+
+// An instruction as the source's parser hands it on: what its word decodes to, the word, and how many bytes that has.
+#[derive(Clone, Copy)]
+pub struct Parsed {
+    pub ins: Ins,
+    pub word: u32,
+    pub size: u32,
+}
+
 // The call from the walk's address that a step is to put in the list of calls.
 #[derive(Clone, Copy)]
 pub struct NewCall {
     pub word: u32,
     pub destination: u32,
-    pub mode: u32,
+    pub mode: Mode,
 }
 
 // `next` is the parser's address, where the walk goes on. The walk's registers stand beside the state, not in it: a block that touches none of
@@ -62,6 +92,8 @@ pub enum Then {
     Refuses { refusal: Refusal, register: u8 },
 }
 
+// What a block comes to, with the state after it. No `Result`: each of its arms would hold a whole state, and the compiler copies both
+// (docs/SPEED.md).
 #[derive(Clone, Copy)]
 pub struct Stepped {
     pub then: Then,
@@ -96,23 +128,22 @@ pub fn is_in(from: u32, to: u32, address: u32) -> bool
 }
 
 // The call from this address. Whether it has a place is asked behind the blocks.
-pub fn call_to(s: State, word: u32, ins: Ins, mode: u32) -> Stepped
-    ensures { Puts same same (call_to ins word mode) s result }
+pub fn call_to(s: State, parsed: Parsed, mode: Mode) -> Stepped
+    ensures { Puts same same (call_to parsed.ins parsed.word (mode_no mode)) s result }
 {
     let call = NewCall {
-        word,
-        destination: ins.target,
+        word: parsed.word,
+        destination: parsed.ins.target,
         mode,
     };
     assign::on(assign::with_call(s, Some(call)))
 }
 
-pub fn load_into(registers: Registers, load: Option<Load>) -> Registers
-    ensures { result ≡ loaded_by load registers }
+pub fn load_into(registers: &mut Registers, load: Option<Load>)
+    ensures { registers.new ≡ loaded_by load registers.old }
 {
-    match load {
-        Some(load) => registers.hold(load.register, load.value, load.address),
-        None => registers,
+    if let Some(load) = load {
+        registers.hold(load.register, load.value, load.address);
     }
 }
 

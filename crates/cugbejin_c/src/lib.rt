@@ -8,16 +8,16 @@ ghost use Rattle.context.specs.Turn.{no_maps, counts_of};
 ghost use Rattle.whole.specs.Whole.{run};
 ghost use Rattle.cugbejin_c.specs.Numbers.{known_from, options_from, no_record, record_of, numbers_of, AnsweredIn};
 
+use context::Module;
+use lists::Lists;
 use outcome::no_counts;
 use walk::{Answer, Counts, Options, Record};
 
+// C's own form of an end that may be missing.
 fn known_from(known: u32, end: u32) -> Option<u32>
     ensures { result ≡ known_from known end }
 {
-    if known == 0 {
-        return None;
-    }
-    Some(end)
+    (known != 0).then_some(end)
 }
 
 fn options_from(base: u32, start: u32, end: u32, known: u32, known_end: u32, check: u32) -> Options
@@ -36,25 +36,15 @@ fn options_from(base: u32, start: u32, end: u32, known: u32, known_end: u32, che
 fn no_record() -> Record
     ensures { result ≡ no_record }
 {
-    Record {
-        start: 0,
-        end: 0,
-        first_instruction: 0,
-        last_instruction_end: 0,
-    }
+    Record::default()
 }
 
 fn record_of(answer: Answer) -> Record
     ensures { result ≡ record_of answer }
 {
     match answer {
-        Answer::Going => no_record(),
         Answer::Accepted(found) => found,
-        Answer::Refused {
-            refusal: _,
-            address: _,
-            register: _,
-        } => no_record(),
+        _ => no_record(),
     }
 }
 
@@ -100,21 +90,19 @@ pub extern "C" fn cugbejin_run(
 ) -> u32
     ensures { AnsweredIn result answer.new (lists labels.new pools.new jump_tables.new inline_tables.new calls.new) (run (options_from base module_start module_end known known_end check) code.now starts.now start (counts_of no_maps) (lists labels.old pools.old jump_tables.old inline_tables.old calls.old)) }
 {
-    let options = options_from(base, module_start, module_end, known, known_end, check);
-    let ran = whole::run(
-        options,
-        start,
+    let module = Module {
+        options: options_from(base, module_start, module_end, known, known_end, check),
         code,
         starts,
+    };
+    let mut lists = Lists {
         labels,
         pools,
         jump_tables,
         inline_tables,
         calls,
-        no_counts(),
-    );
-    let given = ran.answer;
-    let counts = ran.walk.counts;
-    *answer = numbers_of(given, record_of(given), counts);
-    answers::number(given) as u32
+    };
+    let ran = whole::run(module, start, &mut lists, no_counts());
+    *answer = numbers_of(ran.answer, record_of(ran.answer), ran.walk.counts);
+    answers::number(ran.answer) as u32
 }

@@ -2,6 +2,7 @@
 #![tactic(auto)]
 
 use std::io;
+use words::Text;
 
 // The buffers are lent by a function that does nothing else, since a proof about so long an array is slow.
 fn main(rt: HostRuntime) -> io::Result<()> {
@@ -12,6 +13,6 @@ fn main(rt: HostRuntime) -> io::Result<()> {
         &mut rt.stdout(),
         &mut input,
         &mut out,
-        true,
+        Text::Decode,
     )
 }

@@ -18,7 +18,7 @@ use Rattle.analysis.specs.declared.jump_table.JumpTableStateArm.TheVariants.{Cmp
 use Rattle.analysis.specs.IllegalCode.{illegal_code as code_machine, is_shift, dereferenced, offset_by_itself, reads_pc_into_pc}
 use Rattle.analysis.specs.InlineTable.{inline_table as inline_machine, table_of, table_address, sub_from, sub_pc_of, table_made}
 use Rattle.analysis.specs.JumpTable.{Answer, jump_table as jump_machine, table_end, end_of_entries, in_state, found}
-use Rattle.analysis.specs.Pattern.{is_when, gt, hi}
+use Rattle.analysis.specs.Pattern.{is_when}
 use Rattle.analysis.specs.JumpTable.{compared, jump_or_branch, signed_baseline, jump_at, valid_table}
 use Rattle.arm.specs.declared.Ins.{Ins}
 use Rattle.arm.specs.Ins.{is_conditional}
@@ -26,6 +26,7 @@ use Rattle.base.specs.Choice.{pick, both, either}
 use Rattle.base.specs.declared.refusal.Refusal.TheVariants.{IllegalOpcode, ShiftedBase, OffsetByItself, PcIntoPc, BranchOutside, PoolOutside, UndefinedRegister, Beyond32Bits, ListFull}
 use Rattle.base.specs.Words.{word_from}
 use Rattle.classes.specs.declared.Class.TheVariants.{Illegal as ILLEGAL, B, Pop}
+use Rattle.classes.specs.declared.Cond.TheVariants.{Hi, Gt}
 use Rattle.classes.specs.Class.{is}
 use Rattle.context.specs.Blocks.{skip_pool, inline_table_at, table_end_at, skips_to, skip_inline_table, raised_to_table, after_jump, jump_table, coded, illegal_code}
 use Rattle.context.specs.Blocks.{is_in, branch_outside, mark_pool, forget_written, is_long_branch_destination, is_tail_call, call_to, arm, thumb, final_return}
@@ -94,7 +95,7 @@ unfolding compared jump_or_branch signed_baseline jump_at valid_table
 state-sum CmpReg a i = summed _ (is-sum _) (is-sum _)
 state-sum (JumpOrBranchSigned index limit) a i =
     summed _ (found-sum a limit)
-    (summed (is_when i B gt) (is-sum _) (summed (is_when i Pop hi) (is-sum _) (summed i.updates_condition_flags (is-sum _) (is-sum _))))
+    (summed (is_when i B Gt) (is-sum _) (summed (is_when i Pop Hi) (is-sum _) (summed i.updates_condition_flags (is-sum _) (is-sum _))))
 state-sum (SignedBaseline index limit) a i = summed _ (is-sum _) (is-sum _)
 state-sum (JumpSigned index limit) a i = summed _ (found-sum a limit) (summed _ (is-sum _) (is-sum _))
 state-sum (JumpAfterReturn index limit) a i = summed _ (found-sum a limit) (summed _ (is-sum _) (is-sum _))

@@ -1,9 +1,8 @@
 -- From what the parts of the work give to what is found and listed.
 -- Assumes nothing.
-use Rattle.base.proofs.Prelude.{refl, ◌≡◌, ap, false, true, Bool, List, [], ◌++◌, ◌≤◌, ℕ, ◌+◌, ◌*◌, arith, leb, length, length-append, leb-false}
+use Rattle.base.proofs.Prelude.{refl, ◌≡◌, false, true, Bool, List, [], ◌++◌, ◌≤◌, ℕ, ◌+◌, ◌*◌, arith, leb, length, length-append, leb-false}
 use Rattle.std.specs.Prelude.{Option, Some, None, Result, Ok, Err}
 use Rattle.base.specs.Refusals.{refusal_no}
-use Rattle.base.specs.declared.refusal.Refusal.TheVariants.{BadRequest}
 use Rattle.context.specs.Lists.{Lists, maps_in}
 use Rattle.context.specs.Turn.{no_maps, counts_of}
 use Rattle.ended.specs.Ended.{EndedBy}
@@ -13,8 +12,7 @@ use Rattle.listing.specs.Listing.{record_line, refusal_line, shown, list_lines, 
 use Rattle.listing.proofs.ListingLaws.{record-length}
 use Rattle.request.specs.declared.Request.{Request}
 use Rattle.request.specs.Request.{code_of, parsed}
-use Rattle.stepper.specs.declared.Answered.{Answered as Stepped}
-use Rattle.stepper.specs.Stepper.{After, Called, refused}
+use Rattle.stepper.specs.Stepper.{After}
 use Rattle.text.specs.Decimal.{strip, decimal}
 use Rattle.text.specs.Hex.{hex_digit, digits, hex}
 use Rattle.base.specs.Choice.{pick}
@@ -23,22 +21,12 @@ use Rattle.text.proofs.Put.{put_front}
 use Rattle.walk.specs.declared.Answer.{Answer}
 use Rattle.walk.specs.declared.Answer.TheVariants.{Going, Accepted, Refused as Refused-by}
 use Rattle.walk.specs.declared.Counts.{Counts}
-use Rattle.walk.specs.declared.Walk.{Walk}
 use Rattle.whole.specs.Whole.{run}
-use Rattle.words.specs.Answer.{no_room, Answered}
+use Rattle.words.specs.Answer.{no_room}
 use Rattle.words.specs.Names.{bytes}
 use Rattle.words.specs.declared.NoRoom.{NoRoom}
 use Rattle.finder.specs.declared.Outcome.{Outcome}
 use Rattle.finder.specs.Finder.{entries_in, Listing, Finds, found_by, found_in, found, text_by, room_by, Listed}
-
-pub run-finds : (r : Request) (code : List ℕ) (n : Counts) (before after : Lists) (s : Stepped)
-    → n ≡ counts_of no_maps
-    → Called s after (run r.options code [] r.start n before)
-    → Finds (record { answer = s.answer; counts = s.walk.counts }) after (found_by r code before)
-unfolding found_by
-run-finds r code n before after s none h =
-    let g = rw none at h in
-    record { answers = g.answers; counted = ap (λ (w : Walk). w.counts) g.walks; holds = g.holds }
 
 module _ (input : List ℕ) (before : Lists) where
   pub asked-finds : (after : Lists) (r : Request) (f : Outcome)
@@ -47,18 +35,6 @@ module _ (input : List ℕ) (before : Lists) where
       → Finds f after (found input before)
   unfolding found found_in
   asked-finds after r f is h = rw is h
-
-  pub refused-finds : (n : Counts) → parsed input ≡ None → n ≡ counts_of no_maps
-      → Finds (record { answer = refused BadRequest; counts = n }) before (found input before)
-  unfolding found found_in
-  refused-finds n is none = rw is (record { answers = refl; counted = none; holds = refl })
-
-  -- the listing of what was found
-  pub found-listed : (after : Lists) (out left : List ℕ) (f : Outcome) (a : Result ℕ NoRoom)
-      → Finds f after (found input before)
-      → Answered (text_of f.answer after f.counts) (room_for after f.counts) out a left
-      → Listed input before after out a left
-  found-listed after out left f a h t = record { text = rw (← h.answers, ← h.counted, ← h.holds) t; holds = h.holds }
 
   -- what stands for an input that is no request
   pub refused-text : parsed input ≡ None → text_by (found input before) ≡ bytes "refused 16 00000000\n"

@@ -7,11 +7,14 @@ use Rattle.context.specs.Lists.{Lists}
 use Rattle.context.specs.Turn.{no_maps, counts_of}
 use Rattle.stepper.specs.Stepper.{After, refused}
 use Rattle.listing.specs.Listing.{text_of, room_for}
+use Rattle.lists.specs.declared.Lists.{Lists as Lent}
+use Rattle.lists.specs.Lists.{lists_of, IsSame as Same}
 use Rattle.request.specs.declared.Request.{Request}
 use Rattle.request.specs.Request.{code_of, parsed}
 use Rattle.walk.specs.declared.Answer.{Answer}
 use Rattle.walk.specs.declared.Counts.{Counts}
 use Rattle.whole.specs.Whole.{run}
+use Rattle.std.specs.Borrow.{MutBor}
 use Rattle.words.specs.Answer.{Answered}
 use Rattle.words.specs.declared.NoRoom.{NoRoom}
 use Rattle.finder.specs.declared.Outcome.{Outcome}
@@ -36,6 +39,14 @@ found_in None input l = record { answer = refused BadRequest; lists = l; counts 
 
 unfoldable pub found : List ℕ → Lists → Listing
 found input l = found_in (parsed input) input l
+
+-- what lists whose calls are rows of numbers hold
+abbrev pub rows_of : Lent (MutBor (List ℕ)) → Lists
+rows_of l = lists_of (λ s. s.now) l
+
+-- they are the places that they were
+abbrev pub IsSame : Lent (MutBor (List ℕ)) → Lent (MutBor (List ℕ)) → Type 0
+IsSame = Same (λ s t. t.ghost_name ≡ s.ghost_name)
 
 -- these were found
 pub record Finds (f : Outcome) (lists : Lists) (g : Listing) : Type 0 where

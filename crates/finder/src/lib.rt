@@ -4,13 +4,17 @@
 pub mod output;
 
 ghost use Rattle.std.specs.Prelude.{◌≡◌, Ok, Err};
-ghost use Rattle.context.specs.Lists.{lists};
+ghost use Rattle.listing.specs.Listing.{rows_of as shared_rows};
 ghost use Rattle.words.specs.Answer.{no_room};
-ghost use Rattle.finder.specs.Finder.{Finds, found_by, found, Listed};
+ghost use Rattle.finder.specs.Finder.{rows_of, IsSame, Finds, found_by, found, Listed};
 
 use base::refusal::Refusal;
+use context::Module;
+use listing::SharedLists;
+use lists::Lists;
 use outcome::no_counts;
 use request::Request;
+use stepper::refused;
 use walk::{Answer, Counts};
 use words::NoRoom;
 
@@ -22,91 +26,62 @@ pub struct Outcome {
 }
 
 // The whole walk of a request. It has no existing starts.
-fn walk_whole(
-    r: Request,
-    code: &[u8],
-    labels: &mut [u32],
-    pools: &mut [u32],
-    jump_tables: &mut [u32],
-    inline_tables: &mut [u32],
-    calls: &mut [u32],
-) -> Outcome
-    ensures { Finds result (lists labels.new pools.new jump_tables.new inline_tables.new calls.new) (found_by r code.now (lists labels.old pools.old jump_tables.old inline_tables.old calls.old)) }
+#[tactic(auto, unfolding(crate::specs::Finder::found_by))]
+fn walk_whole(r: Request, code: &[u8], lists: &mut Lists<&mut [u32]>) -> Outcome
+    ensures same { IsSame lists.old lists.new }
+    ensures found { Finds result (rows_of lists.new) (found_by r code.now (rows_of lists.old)) }
 {
-    let starts: [u32; 0] = [];
-    let run = whole::run(
-        r.options,
-        r.start,
+    let module = Module {
+        options: r.options,
         code,
-        &starts,
-        labels,
-        pools,
-        jump_tables,
-        inline_tables,
-        calls,
-        no_counts(),
-    );
+        starts: &[],
+    };
+    let ran = whole::run(module, r.start, lists, no_counts());
     Outcome {
-        answer: run.answer,
-        counts: run.walk.counts,
+        answer: ran.answer,
+        counts: ran.walk.counts,
     }
 }
 
 // What an input asks for. One that is no request changes no list.
-fn find(
-    input: &[u8],
-    labels: &mut [u32],
-    pools: &mut [u32],
-    jump_tables: &mut [u32],
-    inline_tables: &mut [u32],
-    calls: &mut [u32],
-) -> Outcome
-    ensures { Finds result (lists labels.new pools.new jump_tables.new inline_tables.new calls.new) (found input.now (lists labels.old pools.old jump_tables.old inline_tables.old calls.old)) }
+#[tactic(auto, unfolding(crate::specs::Finder::found, crate::specs::Finder::found_in))]
+fn find(input: &[u8], lists: &mut Lists<&mut [u32]>) -> Outcome
+    ensures same { IsSame lists.old lists.new }
+    ensures found { Finds result (rows_of lists.new) (found input.now (rows_of lists.old)) }
 {
     match request::parse(input) {
-        Some(r) => walk_whole(
-            r,
-            &input[26..],
-            labels,
-            pools,
-            jump_tables,
-            inline_tables,
-            calls,
-        ),
+        Some(r) => walk_whole(r, &input[26..], lists),
         None => Outcome {
-            answer: Answer::Refused {
-                refusal: Refusal::BadRequest,
-                address: 0,
-                register: 0,
-            },
+            answer: refused(Refusal::BadRequest),
             counts: no_counts(),
         },
+    }
+}
+
+// A walk is lent the lists to change them, a listing to read them.
+fn shared<'a>(lists: &'a Lists<&mut [u32]>) -> SharedLists<'a>
+    ensures { shared_rows result ≡ rows_of lists.now }
+{
+    SharedLists {
+        labels: lists.labels,
+        pools: lists.pools,
+        jump_tables: lists.jump_tables,
+        inline_tables: lists.inline_tables,
+        calls: lists.calls,
     }
 }
 
 // The listing of what an input asks for, at the start of `out`. A buffer that is too short is left alone; the lists hold what was found all the same.
 pub fn list_function(
     input: &[u8],
-    labels: &mut [u32],
-    pools: &mut [u32],
-    jump_tables: &mut [u32],
-    inline_tables: &mut [u32],
-    calls: &mut [u32],
+    lists: &mut Lists<&mut [u32]>,
     out: &mut [u8],
 ) -> Result<usize, NoRoom>
-    ensures { Listed input.now (lists labels.old pools.old jump_tables.old inline_tables.old calls.old) (lists labels.new pools.new jump_tables.new inline_tables.new calls.new) out.old result out.new }
+    ensures same { IsSame lists.old lists.new }
+    ensures listed { Listed input.now (rows_of lists.old) (rows_of lists.new) out.old result out.new }
 {
-    let found = find(input, labels, pools, jump_tables, inline_tables, calls);
-    listing::listing(
-        out,
-        found.answer,
-        labels,
-        pools,
-        jump_tables,
-        inline_tables,
-        calls,
-        found.counts,
-    )
+    let found = find(input, lists);
+    listing::listing(out, found.answer, shared(lists), found.counts)
 }
 
 // Of an answer that is a text. A caller shows that its buffer had room.

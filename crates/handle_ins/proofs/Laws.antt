@@ -1,25 +1,26 @@
 -- What the code of handle_ins comes to: the calls that it asks, its blocks, and the call that it puts.
 -- Assumes nothing.
-use Rattle.base.proofs.Prelude.{◌∙◌, sym, refl, ◌≡◌, ap, subst, false, true, Bool, List, [], ◌∷◌, ℕ, ◌+◌, ◌<◌, ◌^◌, eqb, ltb, length}
-use Rattle.base.proofs.Prelude.{get_or}
+use Rattle.base.proofs.Prelude.{◌∙◌, sym, refl, ◌≡◌, ap, subst, false, true, Bool, List, [], ◌∷◌, ℕ, ◌+◌, ◌<◌, ◌^◌, ltb, length}
 use Rattle.arm.specs.declared.Ins.{Ins}
 use Rattle.base.specs.Choice.{pick}
 use Rattle.context.specs.declared.Handled.{Handled}
 use Rattle.context.specs.declared.Loaded.{Loaded}
-use Rattle.std.specs.Prelude.{Option, Some, None, Result, Ok, Err, ◌||◌}
-use Rattle.std.specs.List.{list_any}
+use Rattle.std.specs.Prelude.{Option, Some, None, Result, Ok, Err}
+use Rattle.context.specs.declared.Module.{Module}
 use Rattle.context.specs.declared.NewCall.{NewCall}
+use Rattle.context.specs.declared.Parsed.{Parsed}
 use Rattle.context.specs.declared.State.{State}
 use Rattle.context.specs.declared.Stepped.{Stepped}
 use Rattle.context.specs.declared.Then.{Then}
 use Rattle.context.specs.declared.Then.TheVariants.{On, Goes, Ends, Refuses}
 use Rattle.context.specs.Blocks.{is_destination, in_conditional_block, to_return, from_return, handle_ins_inner, handle_ins, passed}
 use Rattle.context.specs.Context.{Context, Given, Step, call_row, label_row, pool_row, table_row, going_to}
-use Rattle.context.specs.Lists.{Lists, lists, AllHeld, given_by}
+use Rattle.context.specs.Lists.{Lists, lists, AllHeld, given_to}
 use Rattle.context.specs.State.{World, Holds, Settles, Comes, Does, PutsIf, ToldOfCalls, asks_calls, context_of, called, is_on, read, placed, has_place}
-use Rattle.context.specs.State.{labels_in, pools_in, jump_tables_in, inline_tables_in, options_in, code_in, starts_in, registers_in, forgotten_by, loaded_by, loaded_in, passes, passes_as, headed}
+use Rattle.context.specs.State.{labels_in, pools_in, jump_tables_in, inline_tables_in, module_in, registers_in, forgotten_by, loaded_by, loaded_in, passes, passes_as, headed}
 use Rattle.context.proofs.Laws.{settled as comes, full-refusal, stop, go_on}
-use Rattle.predicates.specs.Predicates.{is_return}
+use Rattle.predicates.specs.declared.Mode.{Mode}
+use Rattle.predicates.specs.Predicates.{is_return, mode_no}
 use Rattle.registers.specs.declared.Registers.{Registers}
 use Rattle.registers.specs.Registers.{forgotten}
 use Rattle.base.specs.declared.refusal.Refusal.{Refusal}
@@ -28,20 +29,7 @@ use Rattle.rows.specs.Map.{key_of, map_in, Held, Entering, fits}
 use Rattle.rows.specs.Rows.{inserted}
 use Rattle.rows.proofs.RowLaws.{inserted-length}
 use Rattle.walk.specs.declared.Counts.{Counts}
-use Rattle.walk.specs.declared.Options.{Options}
 use Rattle.handle_ins.specs.Handles.{context_in, world_of, all_in, calls_of, Inner, has_room, calls_at, with_entry, Stores, Handles}
-
--- ---- whether a call goes to an address, as a test of each
-
-pub goes-any : (a : ℕ) (calls : List (List ℕ)) → list_any (λ c. eqb (get_or c 2 0) a) calls ≡ is_destination a calls
-unfolding is_destination
-goes-any a [] = refl
-goes-any a (c ∷ cs) = step (eqb (get_or c 2 0) a) (goes-any a cs)
-  where
-    step : (b : Bool) → list_any (λ c. eqb (get_or c 2 0) a) cs ≡ is_destination a cs
-        → (b || list_any (λ c. eqb (get_or c 2 0) a) cs) ≡ pick b true (is_destination a cs)
-    step true e = refl
-    step false e = e
 
 -- ---- the call of a step in its list
 
@@ -53,18 +41,18 @@ module _ (count : ℕ) (before : List ℕ) (r : Stepped) where
   pub stores-nothing : r.state.call ≡ None → Held call_row count before → Stores count before before r (with_entry count (Ok count) r)
   stores-nothing e h = rw e (record { held = h; counts = refl; says = λ q g h l. refl; full = λ q. cc })
 
-  pub stores-call : {w d mode : ℕ} {after : List ℕ} {p : Stepped} (e : Result ℕ Refusal) → r.state.call ≡ Some (record { word = w; destination = d; mode = mode })
-      → Entering call_row count before (r.state.progress.address ∷ w ∷ d ∷ mode ∷ []) e after → p ≡ with_entry count e r → Stores count before after r p
+  pub stores-call : {w d : ℕ} {mode : Mode} {after : List ℕ} {p : Stepped} (e : Result ℕ Refusal) → r.state.call ≡ Some (record { word = w; destination = d; mode = mode })
+      → Entering call_row count before (r.state.progress.address ∷ w ∷ d ∷ mode_no mode ∷ []) e after → p ≡ with_entry count e r → Stores count before after r p
   stores-call {w} {d} {mode} {after} e call i is = rw is (step e i)
     where
       row : List (List ℕ)
-      row = inserted key_of (r.state.progress.address ∷ w ∷ d ∷ mode ∷ []) (map_in call_row count before)
+      row = inserted key_of (r.state.progress.address ∷ w ∷ d ∷ mode_no mode ∷ []) (map_in call_row count before)
 
       room : Bool
       room = has_room r.state.progress.address count before
 
       same : fits call_row (length before) row ≡ room
-      same = as_long r.state.progress.address (w ∷ d ∷ mode ∷ []) (length before) (map_in call_row count before)
+      same = as_long r.state.progress.address (w ∷ d ∷ mode_no mode ∷ []) (length before) (map_in call_row count before)
 
       has : {m : ℕ} (b : Bool) → ◌≡◌ {A = Result ℕ Refusal} (Ok m) (pick b (Ok m) (Err ListFull)) → b ≡ false → ⊥
       has true q f = cc
@@ -74,7 +62,7 @@ module _ (count : ℕ) (before : List ℕ) (r : Stepped) where
       hasnt true q f = cc
       hasnt false q f = cc
 
-      step : (e : Result ℕ Refusal) → Entering call_row count before (r.state.progress.address ∷ w ∷ d ∷ mode ∷ []) e after
+      step : (e : Result ℕ Refusal) → Entering call_row count before (r.state.progress.address ∷ w ∷ d ∷ mode_no mode ∷ []) e after
           → Stores count before after r (with_entry count e r)
       step (Ok m) i = record {
         held = i.held;
@@ -104,9 +92,9 @@ module _ (count : ℕ) (before : List ℕ) (r : Stepped) where
 
 -- ---- handle_ins
 
-pub all-holds : (o : Options) (code starts : List ℕ) (g : Registers) (calls : List (List ℕ)) {n : Counts} {l : Lists} → AllHeld n l
-    → Holds n (world_of (given_by o code starts l) g calls l)
-all-holds o code starts g calls h = record {
+pub all-holds : (given : Module) (g : Registers) (calls : List (List ℕ)) {n : Counts} {l : Lists} → AllHeld n l
+    → Holds n (world_of (given_to given l) g calls l)
+all-holds given g calls h = record {
   labels = h.labels;
   pools = h.pools;
   jump_tables = h.jump_tables;
@@ -117,70 +105,72 @@ all-holds o code starts g calls h = record {
   inline_table_places = refl;
 }
 
--- up to in_conditional_block, and from there on, whatever else stands in the world; g are the registers before
-module _ (o : Options) (code starts : List ℕ) (i : Ins) (word size : ℕ) (s : State) (g : Registers) (before : Lists) (l : World) {pools jumps : List ℕ} {r : Stepped}
-    (held : Holds s.counts (all_in o code starts g before l))
+-- up to in_conditional_block, and from there on; g are the registers before
+module _ (given : Module) (p : Parsed) (s : State) (g : Registers) (before : Lists) {pools jumps : List ℕ} {r : Stepped} (held : AllHeld s.counts before)
     (does : Does (λ l. registers_in g (pools_in before.pools (jump_tables_in before.jump_tables (inline_tables_in before.inline_tables l))))
-    (λ l. registers_in (forgotten_by r.then i g) (pools_in pools (jump_tables_in jumps (inline_tables_in before.inline_tables l))))
-    (to_return i)
+    (λ l. registers_in (forgotten_by r.then p.ins g) (pools_in pools (jump_tables_in jumps (inline_tables_in before.inline_tables l))))
+    (to_return p.ins)
     s
     r) where
+  abbrev world : World
+  world = world_of (given_to given before) g (calls_of s before) before
+
   abbrev mid : Registers → World
-  mid x = all_in o code starts x (lists before.labels pools jumps before.inline_tables []) l
+  mid x = all_in given x (lists before.labels pools jumps before.inline_tables []) world
 
   abbrev here : Context
-  here = context_of s (all_in o code starts g before l)
+  here = context_of s (all_in given g before world)
 
-  pub inner_first : Settles s.progress.address s.call r (mid (forgotten_by r.then i g)) (to_return i here)
-  inner_first = does (code_in code (starts_in starts (options_in o (labels_in before.labels l)))) held
+  pub inner_first : Settles s.progress.address s.call r (mid (forgotten_by r.then p.ins g)) (to_return p.ins here)
+  inner_first = does (module_in given (labels_in before.labels world)) (all-holds given g (calls_of s before) held)
 
   pub inner-stops : {has : Bool} → is_on r.then ≡ false
-      → Comes has s.progress.address s.call r (mid g) (handle_ins_inner i word size here)
+      → Comes has s.progress.address s.call r (mid g) (handle_ins_inner p.ins p.word p.size here)
   unfolding handle_ins_inner
   inner-stops e =
-      stop (λ c. from_return i word size (in_conditional_block c) (is_return c.progress.address i c.progress.previous) c) e (comes (rw e at inner_first))
+      stop (λ c. from_return p.ins p.word p.size (in_conditional_block c) (is_return c.progress.address p.ins c.progress.previous) c) e (comes (rw e at inner_first))
 
   pub inner-goes : {labels' pools' inlines' : List ℕ} (u : Loaded) {inside returns is_called : Bool} → s.call ≡ None → is_on r.then ≡ true
       → inside ≡ ltb r.state.progress.address r.state.progress.last_conditional_destination
-      → returns ≡ is_return r.state.progress.address i r.state.progress.previous
-      → (asks_calls size inside returns r.state.progress ≡ true → is_called ≡ is_destination (r.state.progress.address + size) l.calls)
-      → PutsIf (ToldOfCalls size inside returns is_called r.state)
-      (λ l. code_in code (starts_in starts (options_in o (labels_in before.labels (pools_in pools (inline_tables_in before.inline_tables l))))))
-      (λ l. loaded_in u.load (code_in code (starts_in starts (options_in o (labels_in labels' (pools_in pools' (inline_tables_in inlines' l)))))))
-      (from_return i word size inside returns)
+      → returns ≡ is_return r.state.progress.address p.ins r.state.progress.previous
+      → (asks_calls p.size inside returns r.state.progress ≡ true → is_called ≡ is_destination (r.state.progress.address + p.size) world.calls)
+      → PutsIf (ToldOfCalls p.size inside returns is_called r.state)
+      (λ l. module_in given (labels_in before.labels (pools_in pools (inline_tables_in before.inline_tables l))))
+      (λ l. loaded_in u.load (module_in given (labels_in labels' (pools_in pools' (inline_tables_in inlines' l)))))
+      (from_return p.ins p.word p.size inside returns)
       r.state
       u.stepped
-      → Comes (has_place s.progress.address l) s.progress.address s.call u.stepped
-      (all_in o code starts (loaded_by u.load (forgotten g i.defs)) (lists labels' pools' jumps inlines' []) l)
-      (handle_ins_inner i word size here)
+      → Comes (has_place s.progress.address world) s.progress.address s.call u.stepped
+      (all_in given (loaded_by u.load (forgotten g p.ins.defs)) (lists labels' pools' jumps inlines' []) world)
+      (handle_ins_inner p.ins p.word p.size here)
   unfolding handle_ins_inner in_conditional_block
   inner-goes {labels'} {pools'} {inlines'} u {inside} {returns} {is_called} none is-on is_Block is-returning tells puts =
       subst
-      (λ (a : ℕ). Comes (has_place a l) s.progress.address s.call u.stepped
-      (all_in o code starts (loaded_by u.load (forgotten g i.defs)) (lists labels' pools' jumps inlines' []) l)
-      (handle_ins_inner i word size here))
+      (λ (a : ℕ). Comes (has_place a world) s.progress.address s.call u.stepped
+      (all_in given (loaded_by u.load (forgotten g p.ins.defs)) (lists labels' pools' jumps inlines' []) world)
+      (handle_ins_inner p.ins p.word p.size here))
       first.stays
-      (go_on (λ c. from_return i word size (in_conditional_block c) (is_return c.progress.address i c.progress.previous) c) is-on (comes first)
-      (rw (is_Block, is-returning) at (puts (mid (forgotten g i.defs)) told first.holds)))
+      (go_on (λ c. from_return p.ins p.word p.size (in_conditional_block c) (is_return c.progress.address p.ins c.progress.previous) c) is-on (comes first)
+      (rw (is_Block, is-returning) at (puts (mid (forgotten g p.ins.defs)) told first.holds)))
     where
-      first : Settles s.progress.address s.call r (mid (forgotten g i.defs)) (to_return i here)
+      first : Settles s.progress.address s.call r (mid (forgotten g p.ins.defs)) (to_return p.ins here)
       first = rw is-on at inner_first
 
-      told : asks_calls size inside returns r.state.progress ≡ true
-          → is_called ≡ is_destination (r.state.progress.address + size) (context_of r.state (mid (forgotten g i.defs))).maps.calls
+      told : asks_calls p.size inside returns r.state.progress ≡ true
+          → is_called ≡ is_destination (r.state.progress.address + p.size) (context_of r.state (mid (forgotten g p.ins.defs))).maps.calls
       told e =
           tells e
-          ∙ sym (ap (λ (k : Option NewCall). is_destination (r.state.progress.address + size) (called k r.state.progress.address l.calls)) (first.call ∙ none))
+          ∙ sym (ap (λ (k : Option NewCall). is_destination (r.state.progress.address + p.size) (called k r.state.progress.address world.calls)) (first.call ∙ none))
 
 pub below : (size : ℕ) {x a : ℕ} → x ≡ a → a + size < 2 ^ 32 → x + size < 2 ^ 32
 below size e h = rw e h
 
 -- the blocks' step with its call in its list
-module _ (o : Options) (code starts : List ℕ) (before mid : Lists) (after : List ℕ) where
+module _ (given : Module) (before mid : Lists) (after : List ℕ) where
   pub handles-stored : {h : Registers} {r p : Stepped} {a n : ℕ} {k : Option NewCall} {step : Step} → k ≡ None
-      → Comes (has_place a (world_of (given_by o code starts before) h (map_in call_row n before.calls) before)) a k r (world_of (given_by o code starts before) h (map_in call_row n before.calls) mid) step
+      → Comes (has_place a (world_of (given_to given before) h (map_in call_row n before.calls) before)) a k r (world_of (given_to given before) h (map_in call_row n before.calls) mid) step
       → Stores n before.calls after r p → length after ≡ length before.calls
-      → Handles (given_by o code starts before) (record { stepped = p; registers = h }) before (calls_at after mid) step
+      → Handles (given_to given before) (record { stepped = p; registers = h }) before (calls_at after mid) step
   handles-stored {h} {r} {p} {a} {n} {k} {step} none w s long = record {
     held = record {
       labels = rw (ap (λ (n : Counts). n.labels) s.counts) w.holds.labels;
@@ -198,10 +188,10 @@ module _ (o : Options) (code starts : List ℕ) (before mid : Lists) (after : Li
       at e = ap (λ (x : ℕ). placed (has_room x n before.calls) r.state.call) w.stays ∙ e
 
       says : (b : Bool) → placed (has_room a n before.calls) r.state.call ≡ b
-          → read p.then (context_in (given_by o code starts before) h p.state (calls_at after mid)) ≡ step
-      says true e = s.says (at e) (given_by o code starts before) h mid ∙ w.says e
+          → read p.then (context_in (given_to given before) h p.state (calls_at after mid)) ≡ step
+      says true e = s.says (at e) (given_to given before) h mid ∙ w.says e
       says false e =
-          ap (λ (t : Then). read t (context_in (given_by o code starts before) h p.state (calls_at after mid))) (s.full (at e))
+          ap (λ (t : Then). read t (context_in (given_to given before) h p.state (calls_at after mid))) (s.full (at e))
           ∙ sym (w.full e (ap (placed (has_room a n before.calls)) none))
 
 -- and the instruction becomes the previous one
@@ -227,20 +217,20 @@ module _ (i : Ins) (g : Given) (l : Lists) where
     says = passes-read x p.then p.state ∙ ap (passed i) h.says;
   })
 
-module _ (o : Options) (code starts : List ℕ) (i : Ins) (word size : ℕ) (s : State) (g : Registers) (before : Lists) where
+module _ (given : Module) (parsed : Parsed) (s : State) (g : Registers) (before : Lists) where
   pub handles-ins : {labels pools jumps inlines after : List ℕ} {r : Handled} {p x : Stepped} → s.call ≡ None
-      → Inner (given_by o code starts before) i word size (headed (s.progress.address + size) s) g before (lists labels pools jumps inlines before.calls) r
-      → Stores s.counts.calls before.calls after r.stepped p → length after ≡ length before.calls → x ≡ passes i p
-      → Handles (given_by o code starts before) (record { stepped = x; registers = r.registers }) before (lists labels pools jumps inlines after)
-      (handle_ins i word size (context_in (given_by o code starts before) g s before))
+      → Inner (given_to given before) parsed.ins parsed.word parsed.size (headed (s.progress.address + parsed.size) s) g before (lists labels pools jumps inlines before.calls) r
+      → Stores s.counts.calls before.calls after r.stepped p → length after ≡ length before.calls → x ≡ passes parsed.ins p
+      → Handles (given_to given before) (record { stepped = x; registers = r.registers }) before (lists labels pools jumps inlines after)
+      (handle_ins parsed.ins parsed.word parsed.size (context_in (given_to given before) g s before))
   unfolding handle_ins
   handles-ins {labels} {pools} {jumps} {inlines} {after} {r} {p} {x} none w stored long is =
       subst
-      (λ (c : Context). Handles (given_by o code starts before) (record { stepped = x; registers = r.registers }) before (lists labels pools jumps inlines after) (passed i (handle_ins_inner i word size c)))
+      (λ (c : Context). Handles (given_to given before) (record { stepped = x; registers = r.registers }) before (lists labels pools jumps inlines after) (passed parsed.ins (handle_ins_inner parsed.ins parsed.word parsed.size c)))
       context
-      (handles-passed i (given_by o code starts before) (lists labels pools jumps inlines after)
-      (handles-stored o code starts before (lists labels pools jumps inlines before.calls) after none w stored long) is)
+      (handles-passed parsed.ins (given_to given before) (lists labels pools jumps inlines after)
+      (handles-stored given before (lists labels pools jumps inlines before.calls) after none w stored long) is)
     where
-      context : context_of (headed (s.progress.address + size) s) (world_of (given_by o code starts before) g (calls_of s before) before)
-          ≡ going_to (s.progress.address + size) (context_in (given_by o code starts before) g s before)
+      context : context_of (headed (s.progress.address + parsed.size) s) (world_of (given_to given before) g (calls_of s before) before)
+          ≡ going_to (s.progress.address + parsed.size) (context_in (given_to given before) g s before)
       context = rw none

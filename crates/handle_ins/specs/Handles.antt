@@ -4,6 +4,7 @@ use Rattle.std.specs.Prelude.{◌≡◌, None, Result, Ok, Err, Bool, true, fals
 use Rattle.arm.specs.declared.Ins.{Ins}
 use Rattle.base.specs.declared.refusal.Refusal.TheVariants.{ListFull}
 use Rattle.context.specs.declared.Handled.{Handled}
+use Rattle.context.specs.declared.Module.{Module}
 use Rattle.context.specs.declared.State.{State}
 use Rattle.context.specs.declared.Stepped.{Stepped}
 use Rattle.context.specs.declared.Then.{Then}
@@ -16,7 +17,6 @@ use Rattle.registers.specs.declared.Registers.{Registers}
 use Rattle.base.specs.declared.refusal.Refusal.{Refusal}
 use Rattle.rows.specs.Map.{map_in, Held, key_of, rows_left, fits}
 use Rattle.rows.specs.Rows.{inserted}
-use Rattle.walk.specs.declared.Options.{Options}
 
 -- the context of a state and the registers, with the maps that the lists hold
 abbrev pub context_in : Given → Registers → State → Lists → Context
@@ -42,9 +42,9 @@ world_of g h calls l = record {
 }
 
 -- all that a step's blocks are lent, in a world of which they see nothing else
-abbrev pub all_in : Options → List ℕ → List ℕ → Registers → Lists → World → World
-all_in o code starts h x l = record {
-  given = record { options = o; places = l.given.places; code = code; starts = map_in 1 (length starts) starts };
+abbrev pub all_in : Module → Registers → Lists → World → World
+all_in m h x l = record {
+  given = record { options = m.options; places = l.given.places; code = m.code.now; starts = map_in 1 (length m.starts.now) m.starts.now };
   labels = x.labels;
   pools = x.pools;
   jump_tables = x.jump_tables;

@@ -10,16 +10,15 @@ use Rattle.rows.specs.Map.{key_of, Wide, Held, encode}
 use Rattle.rows.proofs.MapLaws.{encode-held}
 use Rattle.walk.specs.declared.Counts.{Counts}
 use Rattle.std.specs.Prelude.{Option, None}
+use Rattle.context.specs.declared.Module.{Module}
 use Rattle.context.specs.declared.NewCall.{NewCall}
 use Rattle.context.specs.declared.State.{State}
 use Rattle.context.specs.declared.Stepped.{Stepped}
 use Rattle.context.specs.declared.Then.TheVariants.{On, Goes}
-use Rattle.context.specs.Context.{Context, Step, goes, ◌▸◌, label_row, pool_row, table_row}
+use Rattle.context.specs.Context.{Context, Step, on as onward, goes, ends, refuses, ◌▸◌, label_row, pool_row, table_row}
 use Rattle.context.specs.Blocks.{is_destination, skip_pool, mark_pool, forget_written}
-use Rattle.walk.specs.declared.Options.{Options}
-use Rattle.context.specs.declared.Load.{Load}
 use Rattle.registers.specs.declared.Registers.{Registers}
-use Rattle.context.specs.State.{code_in, starts_in, options_in, labels_in, pools_in, jump_tables_in, inline_tables_in, registers_in, loaded_in, forgotten_by, World, Holds, Settles, Comes, Does, Puts, PutsIf, ToldOfCalls, same, is_on, has_place, context_of}
+use Rattle.context.specs.State.{module_in, labels_in, pools_in, jump_tables_in, inline_tables_in, registers_in, forgotten_by, World, Holds, Settles, Comes, Does, Puts, PutsIf, ToldOfCalls, same, is_on, has_place, context_of}
 use Rattle.context.proofs.Laws.{go-settled, go_on, settled, stop, stop-settled, registers-held}
 
 -- ---- one block after another
@@ -126,9 +125,9 @@ unfolding is_destination
 told-for true next = rw (eq-eqb next next refl)
 told-for false next = refl
 
--- options, code and starts have no part in it
-pub given-held : {n : Counts} {l : World} (o : Options) (code starts : List ℕ) → Holds n l → Holds n (code_in code (starts_in starts (options_in o l)))
-given-held o code starts h = record {
+-- the module has no part in it
+pub given-held : {n : Counts} {l : World} (m : Module) → Holds n l → Holds n (module_in m l)
+given-held m h = record {
   labels = h.labels;
   pools = h.pools;
   jump_tables = h.jump_tables;
@@ -146,15 +145,26 @@ run x [] = x
 run x (f ∷ fs) = run (x ▸ f) fs
 
 -- the blocks behind one that did not go on
-stop-all-settled : {a : ℕ} {k : Option NewCall} {r : Stepped} {l : World} {step : Step} (fs : List (Context → Step)) → is_on r.then ≡ false → Settles a k r l step
+pub stop-all-settled : {a : ℕ} {k : Option NewCall} {r : Stepped} {l : World} {step : Step} (fs : List (Context → Step)) → is_on r.then ≡ false → Settles a k r l step
     → Settles a k r l (run step fs)
 stop-all-settled [] off t = t
 stop-all-settled (f ∷ fs) off t = stop-all-settled fs off (stop-settled f off t)
 
-stop-all : {has : Bool} {a : ℕ} {k : Option NewCall} {r : Stepped} {l : World} {step : Step} (fs : List (Context → Step)) → is_on r.then ≡ false
+pub stop-all : {has : Bool} {a : ℕ} {k : Option NewCall} {r : Stepped} {l : World} {step : Step} (fs : List (Context → Step)) → is_on r.then ≡ false
     → Comes has a k r l step → Comes has a k r l (run step fs)
 stop-all [] off t = t
 stop-all (f ∷ fs) off t = stop-all fs off (stop f off t)
+
+-- a row of blocks as one block behind a step
+run-stopped : (fs : List (Context → Step)) (x : Step) → ((f : Context → Step) → (x ▸ f) ≡ x) → run x fs ≡ x
+run-stopped [] x stays = refl
+run-stopped (f ∷ fs) x stays = rw (stays f) (run-stopped fs x stays)
+
+pub behind : (x : Step) (f : Context → Step) (fs : List (Context → Step)) → (x ▸ (λ c. run (f c) fs)) ≡ run (x ▸ f) fs
+behind (onward c) f fs = refl
+behind (goes c) f fs = sym (run-stopped fs (goes c) (λ g. refl))
+behind (ends a c) f fs = sym (run-stopped fs (ends a c) (λ g. refl))
+behind (refuses n r) f fs = sym (run-stopped fs (refuses n r) (λ g. refl))
 
 -- what the code asked of the block before
 pub went_on : {b t : Bool} → b ≡ t → b ≡ true → t ≡ true
@@ -207,98 +217,23 @@ module _ {s : State} {held : Registers} {pools jumps inlines : List ℕ} {r : St
       let h = (t.does (standing [] m pools jumps inlines) (registers-held held many)).holds in
       (h.pools, h.jump_tables, h.inline_tables)
 
--- ---- from_return: behind its first blocks f the code has come to r, with these labels, pools and inline tables, and this load
+-- ---- from_return: what the blocks behind the first ones, f, may require, in a world in which these slices stand
 
--- what does not change from block to block
-pub record Entry : Type 0 where
-  pub options : Options
-  pub state : State
-  pub size : ℕ
-  pub inside : Bool
-  pub returns : Bool
-  pub called : Bool
-  pub code : List ℕ
-  pub starts : List ℕ
-  pub labels : List ℕ
-  pub pools : List ℕ
-  pub inlines : List ℕ
+abbrev pub standing_by : State → ℕ → Bool → List ℕ → List ℕ → List ℕ → World
+standing_by s size called labels pools inlines =
+    standing (calls_for called (s.progress.address + size)) labels pools (some table_row s.counts.jump_tables) inlines
 
--- what is handed to from_return
-abbrev pub entry : Options → State → ℕ → Bool → Bool → Bool → List ℕ → List ℕ → List ℕ → List ℕ → List ℕ → Entry
-entry o s size inside returns called code starts labels pools inlines = record {
-  options = o;
-  state = s;
-  size = size;
-  inside = inside;
-  returns = returns;
-  called = called;
-  code = code;
-  starts = starts;
-  labels = labels;
-  pools = pools;
-  inlines = inlines;
-}
-
--- the world with these labels, pools and inline tables
-abbrev pub lent : Entry → List ℕ → List ℕ → List ℕ → World → World
-lent e m p n l = code_in e.code (starts_in e.starts (options_in e.options (labels_in m (pools_in p (inline_tables_in n l)))))
-
-abbrev pub Comes-from : Entry → (World → World) → (Context → Step) → Stepped → Type 0
-Comes-from e after f r =
-    PutsIf (ToldOfCalls e.size e.inside e.returns e.called e.state) (lent e e.labels e.pools e.inlines) after f e.state r
-
-pub record From (e : Entry) (f : Context → Step) (m p n : List ℕ) (load : Option Load) (r : Stepped) : Type 0 where
-  pub does : Comes-from e (λ l. loaded_in load (lent e m p n l)) f r
-
-pub from_first : (e : Entry) (f : Context → Step) {r : Stepped}
-    → PutsIf (ToldOfCalls e.size e.inside e.returns e.called e.state) (λ l. code_in e.code (options_in e.options l))
-    (λ l. code_in e.code (options_in e.options l)) f e.state r
-    → From e f e.labels e.pools e.inlines None r
-from_first e f d = record { does = λ l told h. d (lent e e.labels e.pools e.inlines l) told h }
-
-module _ {e : Entry} {r : Stepped} {f : Context → Step} {m p n : List ℕ} {load : Option Load} (t : From e f m p n load r) where
-  module _ {u : Stepped} (on : is_on r.then ≡ true) (g : Context → Step) where
-    pub from-alone : Does same same g r.state u → From e (λ c. f c ▸ g) m p n load u
-    from-alone d = record { does = λ l told h. then_may g on (t.does l told h) refl d }
-
-    pub from-labels : {after : List ℕ}
-        → Puts (λ l. starts_in e.starts (options_in e.options (labels_in m (pools_in p l)))) (λ l. starts_in e.starts (options_in e.options (labels_in after (pools_in p l)))) g r.state u
-        → From e (λ c. f c ▸ g) after p n load u
-    from-labels d = record { does = λ l told h. then-puts g on (t.does l told h) refl d }
-
-    pub from-inlines : {after : List ℕ} → Does (inline_tables_in n) (inline_tables_in after) g r.state u → From e (λ c. f c ▸ g) m p after load u
-    from-inlines d = record { does = λ l told h. then_may g on (t.does l told h) refl d }
-
-    pub from-call : Puts same same g r.state u → From e (λ c. f c ▸ g) m p n load u
-    from-call d = record { does = λ l told h. then-puts g on (t.does l told h) refl d }
-
-    pub from-options : Does (options_in e.options) (options_in e.options) g r.state u → From e (λ c. f c ▸ g) m p n load u
-    from-options d = record { does = λ l told h. then_may g on (t.does l told h) refl d }
-
-  pub from_goes : is_on r.then ≡ true → Comes-from e (λ l. loaded_in load (lent e m p n l)) (λ c. f c ▸ goes) (record { then = Goes; state = r.state })
-  from_goes on = λ l told h. then-goes on (t.does l told h)
-
-  -- the blocks fs behind one that stopped
-  pub from-stops : is_on r.then ≡ false → (fs : List (Context → Step)) → Comes-from e (λ l. loaded_in load (lent e m p n l)) (λ c. run (f c) fs) r
-  from-stops off fs = λ l told h. stop-all fs off (t.does l told h)
-
-  -- what the next block requires
-  pub from-held : Held label_row e.state.counts.labels e.labels → Held pool_row e.state.counts.pools e.pools
-      → Held table_row e.state.counts.inline_tables e.inlines → e.state.call ≡ None
-      → Held label_row r.state.counts.labels m × Held pool_row r.state.counts.pools p × Held table_row r.state.counts.inline_tables n
-      × (r.state.progress.address ≡ e.state.progress.address)
-  from-held a b c none =
-      let s = e.state in
-      let j = some table_row s.counts.jump_tables in
-      let k = calls_for e.called (s.progress.address + e.size) in
-      let l = standing k e.labels e.pools j e.inlines in
-      let told : ToldOfCalls e.size e.inside e.returns e.called s l = λ _. rw none (told-for e.called (s.progress.address + e.size)) in
-      let many = stands k e.labels e.pools j e.inlines a b (some-held table_row s.counts.jump_tables (omega arith)) c in
-      let end = t.does l told (given-held e.options e.code e.starts many) in
-      (end.holds.labels, end.holds.pools, end.holds.inline_tables, end.stays)
-
-module _ {e : Entry} {r u : Stepped} {f : Context → Step} {m p n after : List ℕ} where
-  pub from-pools : From e f m p n None r → is_on r.then ≡ true → (g : Context → Step) (load : Option Load)
-      → Does (λ l. code_in e.code (options_in e.options (pools_in p l))) (λ l. loaded_in load (code_in e.code (options_in e.options (pools_in after l)))) g r.state u
-      → From e (λ c. f c ▸ g) m after n load u
-  from-pools t on g load d = record { does = λ l told h. then_may g on (t.does l told h) refl d }
+pub came : (m : Module) (s : State) (size : ℕ) (inside returns called : Bool) (labels pools inlines after : List ℕ) (f : Context → Step) {r : Stepped}
+    → PutsIf (ToldOfCalls size inside returns called s) (λ l. module_in m (labels_in labels (pools_in pools l)))
+    (λ l. module_in m (labels_in after (pools_in pools l))) f s r
+    → Held label_row s.counts.labels labels → Held pool_row s.counts.pools pools → Held table_row s.counts.inline_tables inlines → s.call ≡ None
+    → Holds r.state.counts (module_in m (labels_in after (pools_in pools (standing_by s size called labels pools inlines))))
+    × (r.state.progress.address ≡ s.progress.address)
+came m s size inside returns called labels pools inlines after f d a b c none =
+    let next = s.progress.address + size in
+    let j = some table_row s.counts.jump_tables in
+    let l = standing (calls_for called next) labels pools j inlines in
+    let told : ToldOfCalls size inside returns called s l = λ _. rw none (told-for called next) in
+    let many = stands (calls_for called next) labels pools j inlines a b (some-held table_row s.counts.jump_tables (omega arith)) c in
+    let end = d l told (given-held m many) in
+    (end.holds, end.stays)

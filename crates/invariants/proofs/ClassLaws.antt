@@ -2,11 +2,13 @@
 -- Assumes nothing.
 use Rattle.base.proofs.Prelude.{refl, ◌≡◌, true, false, Bool, not, ℕ, arith, eqb, eqb-true}
 use Rattle.base.proofs.ChoiceLaws.{both_first, both-second}
-use Rattle.analysis.specs.Pattern.{al, pc}
+use Rattle.analysis.specs.Pattern.{pc}
 use Rattle.base.specs.Choice.{pick, both}
 use Rattle.classes.specs.declared.Class.TheVariants.{Ldr, Push}
+use Rattle.classes.specs.declared.Cond.TheVariants.{Al}
 use Rattle.arm.specs.declared.Ins.{Ins}
 use Rattle.classes.specs.Class.{class_no, is}
+use Rattle.classes.specs.Cond.{is_cond}
 use Rattle.arm.specs.Ins.{is_conditional}
 use Rattle.predicates.specs.declared.Previous.{Previous}
 use Rattle.predicates.specs.Predicates.{has_lr, is_entry_instruction, is_branch, is_off_pc, is_pool_load, is_mov_pc, is_ldm_pc, is_pop_pc, is_branch_back}
@@ -48,7 +50,7 @@ module _ (i : Ins) (load : is_pool_load i ≡ true) where
   unfolding class_no is_return is_return_after is_return_always is_mov_pc is_ldm_pc is_pop_pc is_branch_back is_subs_pc_lr is_ldr_pc is_eor_pc is_add_pc
   load-no-return a previous =
       let class : class_no i.class ≡ class_no Ldr = eqb-true _ _ load-ldr in
-      rw (class, load-target, same (eqb i.cond al)) (same (is_conditional i.cond))
+      rw (class, load-target, same (is_cond i.cond Al)) (same (is_conditional i.cond))
 
   pub load-no-entry : is_entry_instruction i ≡ false
   unfolding class_no is_entry_instruction

@@ -174,7 +174,7 @@ module _ (o : Options) (code starts : List ℕ) (w : Walk) (l : Lists) (p : Pass
         held = rw (counts, pools) sound.1.are-held;
       }
 
--- ---- the same by number
+-- ---- the same by the check
 
 module _ (o : Options) (code starts : List ℕ) (w : Walk) (l : Lists) (number : check_at o code starts w l ≡ Ok tt) where
   abbrev here : Turned

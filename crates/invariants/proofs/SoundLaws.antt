@@ -8,7 +8,7 @@ use Rattle.std.specs.Prelude.{Some}
 use Rattle.base.specs.Choice.{pick}
 use Rattle.base.specs.Words.{word_from}
 use Rattle.context.specs.Blocks.{other, call, marked, handle_ins}
-use Rattle.context.specs.Context.{Maps, Given, Context, goes, ends, label_row, pool_row, table_row, call_row}
+use Rattle.context.specs.Context.{Maps, Given, Context, label_row, pool_row, table_row, call_row}
 use Rattle.registers.specs.Registers.{forgotten, holding}
 use Rattle.rows.specs.Order.{ascending}
 use Rattle.rows.specs.Rows.{rank, stands, inserted}

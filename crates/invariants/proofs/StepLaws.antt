@@ -1,8 +1,7 @@
 -- Steps from a walk that passes the checks are turns, since what they ask for holds again; and of any steps, no more find a word than the
 -- code has bytes.
 -- Assumes nothing.
-use Rattle.base.proofs.Prelude.{◌∙◌, sym, refl, ◌≡◌, ap, subst, false, true, Bool, List, ◌≤◌, ℕ, ◌+◌, ◌<◌, ◌-◌, suc, zero, max, arith, eqb, length}
-use Rattle.base.proofs.Prelude.{eq-eqb}
+use Rattle.base.proofs.Prelude.{◌∙◌, sym, refl, ◌≡◌, ap, subst, false, true, Bool, List, ◌≤◌, ℕ, ◌+◌, ◌<◌, ◌-◌, suc, zero, max, arith, length}
 use Rattle.std.specs.Prelude.{Result, Ok, Err, is_ok}
 use Rattle.base.specs.declared.refusal.Refusal.{Refusal}
 use Rattle.std.specs.Prelude.{Option, Some, None}

@@ -4,10 +4,9 @@ use Rattle.base.proofs.Prelude.{◌∙◌, sym, refl, ◌≡◌, ap, false, true
 use Rattle.arm.specs.declared.Ins.{Ins}
 use Rattle.base.specs.Choice.{pick}
 use Rattle.rows.specs.Rows.{rank}
-use Rattle.rows.specs.Map.{key_of, map_in, Held, Entering, at_or_above}
+use Rattle.rows.specs.Map.{key_of, map_in, Entering, at_or_above}
 use Rattle.std.specs.Prelude.{Some, None, Ok, Err}
 use Rattle.base.specs.declared.refusal.Refusal.{Refusal}
-use Rattle.rows.proofs.MapLaws.{map-length}
 use Rattle.context.specs.declared.State.{State}
 use Rattle.context.specs.declared.Stepped.{Stepped}
 use Rattle.context.specs.declared.Then.TheVariants.{Refuses}
@@ -15,19 +14,16 @@ use Rattle.context.specs.Context.{enter_label, raising, label_row, pool_row}
 use Rattle.context.specs.Blocks.{past_pools, raises_label, label_raised, handle_label}
 use Rattle.context.specs.State.{World, Settles, Does, context_of, counted, count_labels, progressed, labels_in, pools_in}
 use Rattle.context.proofs.Laws.{onwards, full-refusal, entered-in, entered-full, labels-held, go-settled}
-use Rattle.labels.specs.Labels.{raises_by, raised_by}
+use Rattle.labels.specs.Labels.{DoesOver, raises_by, raised_by}
 
 -- the first label at or above an address is one of the labels
-pub above_within : (x n : ℕ) (list : List ℕ) {k : ℕ} → at_or_above x (map_in label_row n list) ≡ Some k → k < n
+pub above_within : (x : ℕ) (m : List (List ℕ)) {k : ℕ} → at_or_above x m ≡ Some k → k < length m
 unfolding at_or_above
-above_within x n list e = rw (map-length label_row n list) at (found (map_in label_row n list) e)
+above_within x m {k} = step (ltb (rank key_of x m) (length m)) refl
   where
-    found : (m : List (List ℕ)) {k : ℕ} → at_or_above x m ≡ Some k → k < length m
-    found m {k} = step (ltb (rank key_of x m) (length m)) refl
-      where
-        step : (b : Bool) → ltb (rank key_of x m) (length m) ≡ b → pick b (Some (rank key_of x m)) None ≡ Some k → k < length m
-        step true q e = let p : rank key_of x m ≡ k = cc in rw p at (ltb-true (rank key_of x m) (length m) q)
-        step false q e = let z : ◌≡◌ {A = ℕ} 0 1 = cc in omega (arith, z)
+    step : (b : Bool) → ltb (rank key_of x m) (length m) ≡ b → pick b (Some (rank key_of x m)) None ≡ Some k → k < length m
+    step true q e = let p : rank key_of x m ≡ k = cc in rw p at (ltb-true (rank key_of x m) (length m) q)
+    step false q e = let z : ◌≡◌ {A = ℕ} 0 1 = cc in omega (arith, z)
 
 -- ---- the raise
 
@@ -49,10 +45,9 @@ module _ (i : Ins) (inside : Bool) where
       step false = refl
 
   -- what the way past pools requires
-  pub at_label : (s : State) (size : ℕ) {t u : State} {x : ℕ} {labels pools : List ℕ}
+  pub at_label : (s : State) (size : ℕ) {t u : State} {x : ℕ}
       → t ≡ counted (count_labels x s.counts) s → u ≡ raised_by i inside t
-      → Held label_row x labels × Held pool_row s.counts.pools pools × (s.progress.address + size < 2 ^ 32)
-      → Held label_row u.counts.labels labels × Held pool_row u.counts.pools pools × (u.progress.address + size < 2 ^ 32)
+      → s.progress.address + size < 2 ^ 32 → u.progress.address + size < 2 ^ 32
   at_label s size {t} te ue h = rw (ue, raised-address t, te) h
 
 -- ---- handle_label, after its label was entered
@@ -71,15 +66,16 @@ module _ (i : Ins) (s : State) (size : ℕ) (inside : Bool) (pools : List ℕ) {
         says = sym (rw (entered-full _ _ h.label_places put));
       })
 
-  pub label-in : {count : ℕ} {t u : State} {r : Stepped} → Entering label_row s.counts.labels before (i.target ∷ []) (Ok count) after
-      → t ≡ counted (count_labels count s.counts) s → u ≡ raised_by i inside t → Does (λ l. labels_in after (pools_in pools l)) (λ l. labels_in after (pools_in pools l)) (past_pools i size) u r
+  pub label-in : {count : ℕ} {t u : State} {r : Stepped} {labels' pools' : List (List ℕ)} → Entering label_row s.counts.labels before (i.target ∷ []) (Ok count) after
+      → t ≡ counted (count_labels count s.counts) s → u ≡ raised_by i inside t
+      → labels' ≡ map_in label_row count after → pools' ≡ map_in pool_row s.counts.pools pools → DoesOver labels' pools' (past_pools i size) u r
       → Does (λ l. labels_in before (pools_in pools l)) (λ l. labels_in after (pools_in pools l)) (handle_label i size inside) s r
   unfolding handle_label
-  label-in {count} {t} {u} {r} put te ue d = λ l h.
+  label-in {count} {t} {u} {r} put te ue le pe d = λ l h.
       let held = labels-held (pools_in pools l) h put.held long in
       let w : Settles s.progress.address s.call (onwards t) (labels_in after (pools_in pools l)) (enter_label (i.target ∷ []) (context_of s (labels_in before (pools_in pools l))))
       = rw te (record { stays = refl; call = refl; holds = held; says = sym (rw (entered-in _ _ h.label_places put)) }) in
-      let v = d l (rw (ue, te) held) in
+      let v = d (labels_in after (pools_in pools l)) (rw (ue, te) le) (rw (ue, te) pe) (rw (ue, te) held) in
       go-settled (λ c. past_pools i size (label_raised i inside c)) refl w
       (record {
         stays = v.stays ∙ rw ue (raised-address i inside t);

@@ -1,2 +1,2 @@
--- What the contracts of this crate cite: the raise at a label.
+-- What the contracts of this crate cite: the raise at a label, and a block over the maps of labels and pools.
 pub mod Labels

@@ -2,6 +2,7 @@
 #![tactic(auto)]
 
 use finder::output::write_listing;
+use lists::Lists;
 use std::io::{self, Stdin, Stdout};
 
 fn list(
@@ -16,16 +17,14 @@ fn list(
     out: &mut [u8; 128045],
 ) -> io::Result<()> {
     let n = streams::read_full(from, &mut input[..])?;
-    write_listing(
-        output,
-        &input[..n],
-        &mut labels[..],
-        &mut pools[..],
-        &mut jump_tables[..],
-        &mut inline_tables[..],
-        &mut calls[..],
-        &mut out[..],
-    )
+    let mut lists = Lists {
+        labels: &mut labels[..],
+        pools: &mut pools[..],
+        jump_tables: &mut jump_tables[..],
+        inline_tables: &mut inline_tables[..],
+        calls: &mut calls[..],
+    };
+    write_listing(output, &input[..n], &mut lists, &mut out[..])
 }
 
 // It holds and lends the arrays and does nothing else, since the checker is slow where a function holds so long ones and has a goal.

@@ -1,8 +1,8 @@
 -- How long a listing is, and what it shows.
 -- Assumes nothing.
-use Rattle.base.proofs.Prelude.{◌∙◌, sym, refl, ◌≡◌, ap, false, true, Bool, List, [], ◌∷◌, ◌++◌, append_assoc, append-nil, ◌≤◌, ℕ, ◌+◌, ◌-◌, suc, ◌*◌}
-use Rattle.base.proofs.Prelude.{zero, ◌/◌, arith, zero-mul, suc-mul, leb, length, drop, take, length-append, drop-drop, le-leb, lt-leb, leb-true}
-use Rattle.base.proofs.Prelude.{leb-false}
+use Rattle.base.proofs.Prelude.{◌∙◌, sym, subst, add-one, refl, ◌≡◌, ap, List, [], ◌∷◌, ◌++◌, append_assoc, append-nil, ℕ, ◌+◌, suc}
+use Rattle.base.proofs.Prelude.{arith, length, length-append}
+use Rattle.std.proofs.Math.Seq.{take-append_seam, drop-append_seam}
 use Rattle.context.specs.Blocks.{other}
 use Rattle.context.specs.Lists.{Lists, lists}
 use Rattle.rows.specs.Map.{map_in}
@@ -23,14 +23,6 @@ pub record-length : (r : Record) → length (record_line r) ≡ 45
 unfolding record_line newline bytes
 record-length r = simp (length-append, field-length) (omega arith)
 
--- lines that fit behind the first
-pub room-lines : (lines places : ℕ) → 45 ≤ places → leb lines ((places - 45) / 40) ≡ leb (45 + 40 * lines) places
-room-lines lines places h = step (leb lines ((places - 45) / 40)) refl
-  where
-    step : (b : Bool) → leb lines ((places - 45) / 40) ≡ b → b ≡ leb (45 + 40 * lines) places
-    step true e = sym (le-leb (45 + 40 * lines) places (omega (arith, leb-true lines ((places - 45) / 40) e)))
-    step false e = sym (lt-leb (45 + 40 * lines) places (omega (arith, leb-false lines ((places - 45) / 40) e)))
-
 pub shown-fits : (l : Lists) (n : Counts) → Fitting l (shown l n)
 unfolding shown
 shown-fits l n = record {
@@ -41,15 +33,18 @@ shown-fits l n = record {
   calls = omega arith;
 }
 
+-- a row off the front of the numbers to come
+pub row-off : (k n : ℕ) (row rest : List ℕ) → length row ≡ k → map_in k (n + 1) (row ++ rest) ≡ row ∷ map_in k n rest
+unfolding map_in
+row-off k n row rest h =
+    subst (λ (j : ℕ). map_in j (n + 1) (row ++ rest) ≡ row ∷ map_in j n rest) h
+    (rw (add-one n, take-append_seam row rest, drop-append_seam row rest))
+
 -- one row more
-pub lines_more : (name : List ℕ) (k i : ℕ) (xs : List ℕ)
-    → lines_of name (map_in k (suc i) xs) ≡ lines_of name (map_in k i xs) ++ line_of name (take k (drop (i * k) xs))
-unfolding lines_of map_in
-lines_more name k zero xs = rw (zero-mul k, append-nil)
-lines_more name k (suc i) xs =
-    let past : k + i * k ≡ suc i * k = omega (arith, suc-mul i k) in
-    let from : drop (i * k) (drop k xs) ≡ drop (suc i * k) xs = drop-drop (i * k) k xs ∙ ap (λ (j : ℕ). drop j xs) past in
-    rw (append_assoc, ← from) (ap (λ (t : List ℕ). line_of name (take k xs) ++ t) (lines_more name k i (drop k xs)))
+pub lines_more : (name : List ℕ) (rows : List (List ℕ)) (row : List ℕ) → lines_of name (rows ++ row ∷ []) ≡ lines_of name rows ++ line_of name row
+unfolding lines_of
+lines_more name [] row = append-nil (line_of name row)
+lines_more name (first ∷ rows) row = ap (λ (t : List ℕ). line_of name first ++ t) (lines_more name rows row) ∙ sym (append_assoc (line_of name first) (lines_of name rows) (line_of name row))
 
 -- ---- an example
 

@@ -4,27 +4,26 @@
 ghost use Rattle.std.specs.Prelude.{IfOk, ◌≤◌, length};
 
 use finder::output::write_listing;
+use lists::Lists;
 use std::io::{self, Stdin, Stdout};
 
 const MOST_INPUTS: usize = 100_000_000;
 
 fn list(output: &mut Stdout, input: &[u8], out: &mut [u8; 128045]) -> io::Result<()> {
-    // Rows one after another: a pool has three numbers, a table two, a call four.
+    // The arrays that `listfn` has in `main`, as document 01 has them there.
     let mut labels = [0u32; 1024];
     let mut pools = [0u32; 3 * 1024];
     let mut jump_tables = [0u32; 2 * 64];
     let mut inline_tables = [0u32; 2 * 64];
     let mut calls = [0u32; 4 * 1024];
-    write_listing(
-        output,
-        input,
-        &mut labels[..],
-        &mut pools[..],
-        &mut jump_tables[..],
-        &mut inline_tables[..],
-        &mut calls[..],
-        &mut out[..],
-    )
+    let mut lists = Lists {
+        labels: &mut labels[..],
+        pools: &mut pools[..],
+        jump_tables: &mut jump_tables[..],
+        inline_tables: &mut inline_tables[..],
+        calls: &mut calls[..],
+    };
+    write_listing(output, input, &mut lists, &mut out[..])
 }
 
 // The next bytes, as many as the count says or are left.

@@ -1,18 +1,15 @@
-// What a step comes to: the walk after it, and the lists after a refusal.
+// What a step comes to: the walk after it.
 #![tactic(auto)]
 
 ghost use Rattle.std.specs.Prelude.{◌≡◌};
 ghost use Rattle.context.specs.Context.{pool_row};
-ghost use Rattle.context.specs.Lists.{lists, AllHeld, zeroed};
 ghost use Rattle.context.specs.Turn.{key_or0, no_maps, counts_of};
 ghost use Rattle.rows.specs.Map.{Held, map_in, first_key};
 ghost use Rattle.outcome.specs.Outcome.{state_of, walk_in, with_counts, refused_walk, ends_at, settles, is_refused};
 
 use base::refusal::Refusal;
-use context::{CALL_ROW, Handled, LABEL_ROW, POOL_ROW, State, TABLE_ROW, Then};
+use context::{Handled, Pools, State, Then};
 use registers::Registers;
-use rows::order::clear;
-use rows::search::first;
 use walk::into_function::into_function;
 use walk::{Answer, Counts, Options, Walk};
 
@@ -63,20 +60,18 @@ pub fn refused_walk(w: Walk, counts: Counts, refusal: Refusal, address: u32, reg
 }
 
 // The first pool, 0 where there is none.
-fn first_pool(pools: &[u32], count: usize) -> u32
-    requires { Held pool_row count pools.now }
-    ensures { result ≡ key_or0 (first_key (map_in pool_row count pools.now)) }
+fn first_pool(pools: &Pools) -> u32
+    ensures { result ≡ key_or0 (first_key pools.now.rows.now) }
 {
-    first(pools, POOL_ROW, count).unwrap_or(0)
+    pools.first().unwrap_or(0)
 }
 
 // into_function, from the last instruction's end.
-fn end_at(o: Options, s: State, registers: Registers, end: u32, pools: &[u32]) -> Walk
-    requires { Held pool_row s.counts.pools pools.now }
-    ensures { result ≡ ends_at o (key_or0 (first_key (map_in pool_row s.counts.pools pools.now))) end registers s }
+fn end_at(o: Options, s: State, registers: Registers, end: u32, pools: &Pools) -> Walk
+    ensures { result ≡ ends_at o (key_or0 (first_key pools.now.rows.now)) end registers s }
 {
     let p = s.progress;
-    let pool = first_pool(pools, s.counts.pools);
+    let pool = first_pool(pools);
     let result = into_function(o, p.start, end, p.last_pool_address, pool);
     let mut ended = s;
     ended.progress.address = end;
@@ -91,7 +86,7 @@ pub fn settle(o: Options, w: Walk, h: Handled, pools: &[u32]) -> Walk
     let s = h.stepped.state;
     match h.stepped.then {
         Then::On | Then::Goes => walk_in(s, h.registers, Answer::Going),
-        Then::Ends(end) => end_at(o, s, h.registers, end, pools),
+        Then::Ends(end) => end_at(o, s, h.registers, end, &Pools::new(pools, s.counts.pools)),
         Then::Refuses { refusal, register } => {
             refused_walk(w, s.counts, refusal, w.progress.address, register)
         }
@@ -102,25 +97,6 @@ pub fn is_refused(answer: Answer) -> bool
     ensures { result ≡ is_refused answer }
 {
     matches!(answer, Answer::Refused { .. })
-}
-
-// Every list without its entries: all else is zero already.
-pub fn clear_all(
-    n: Counts,
-    labels: &mut [u32],
-    pools: &mut [u32],
-    jump_tables: &mut [u32],
-    inline_tables: &mut [u32],
-    calls: &mut [u32],
-)
-    requires { AllHeld n (lists labels.old pools.old jump_tables.old inline_tables.old calls.old) }
-    ensures { (lists labels.new pools.new jump_tables.new inline_tables.new calls.new) ≡ zeroed (lists labels.old pools.old jump_tables.old inline_tables.old calls.old) }
-{
-    clear(labels, LABEL_ROW, n.labels);
-    clear(pools, POOL_ROW, n.pools);
-    clear(jump_tables, TABLE_ROW, n.jump_tables);
-    clear(inline_tables, TABLE_ROW, n.inline_tables);
-    clear(calls, CALL_ROW, n.calls);
 }
 
 pub fn no_counts() -> Counts

@@ -2,6 +2,7 @@
 -- Assumes nothing.
 use Rattle.std.specs.Prelude.{ℕ, ◌+◌, ◌/◌, ◌*◌, ◌%◌, Bool, true, false, not, eqb, ltb, leb, ℤ, pos, negsuc, ◌+ℤ◌, Option, Some, None}
 use Rattle.classes.specs.declared.Class.TheVariants.{B, Bl, Blx1, Bx, Push, Pop, Mov, Ldm, Stm, Sub, Ldr, Str, Eor, Add}
+use Rattle.classes.specs.declared.Cond.TheVariants.{Ne, Al}
 use Rattle.arm.specs.declared.Ins.{Ins}
 use Rattle.classes.specs.declared.Op2.{Op2}
 use Rattle.classes.specs.declared.Op2.TheVariants.{Imm, ShiftImm, ShiftReg}
@@ -15,15 +16,11 @@ use Rattle.classes.specs.declared.LdmStmMode.{LdmStmMode}
 use Rattle.classes.specs.declared.LdmStmMode.TheVariants.{Da, Ia, Db, Ib}
 use Rattle.classes.specs.Class.{is}
 use Rattle.arm.specs.Ins.{is_conditional}
-use Rattle.analysis.specs.Pattern.{is_when, is_data, is_lsl, is_register, al, sp, lr, pc}
+use Rattle.analysis.specs.Pattern.{is_when, is_data, is_lsl, is_register, sp, lr, pc}
 use Rattle.base.specs.Choice.{pick, both}
 use Rattle.predicates.specs.declared.Previous.{Previous}
 use Rattle.predicates.specs.declared.Mode.{Mode}
 use Rattle.predicates.specs.declared.Mode.TheVariants.{Arm, Thumb}
-
--- the condition "not equal", by number
-abbrev pub ne : ℕ
-ne = 1
 
 -- a register stands in a list
 abbrev pub has_lr : ℕ → Bool
@@ -99,39 +96,39 @@ is_four (ShiftReg rm op rs) = false
 
 -- bx *
 abbrev pub is_bx : Ins → Bool
-is_bx i = is_when i Bx al
+is_bx i = is_when i Bx Al
 
 -- mov pc, *
 unfoldable pub is_mov_pc : Ins → Bool
-is_mov_pc i = both (is_data i Mov al false) (eqb i.rd pc)
+is_mov_pc i = both (is_data i Mov Al false) (eqb i.rd pc)
 
 -- ldmia *, {.., pc}
 unfoldable pub is_ldm_pc : Ins → Bool
-is_ldm_pc i = both (is_when i Ldm al) (both (is_ia i.mode) (has_pc i.regs))
+is_ldm_pc i = both (is_when i Ldm Al) (both (is_ia i.mode) (has_pc i.regs))
 
 -- pop {.., pc}
 unfoldable pub is_pop_pc : Ins → Bool
-is_pop_pc i = both (is_when i Pop al) (has_pc i.regs)
+is_pop_pc i = both (is_when i Pop Al) (has_pc i.regs)
 
 -- a branch backwards, or to itself
 unfoldable pub is_branch_back : ℕ → Ins → Bool
-is_branch_back address i = both (is_when i B al) (leb i.target address)
+is_branch_back address i = both (is_when i B Al) (leb i.target address)
 
 -- subs pc, lr, *
 unfoldable pub is_subs_pc_lr : Ins → Bool
-is_subs_pc_lr i = both (is_data i Sub al true) (both (eqb i.rd pc) (eqb i.rn lr))
+is_subs_pc_lr i = both (is_data i Sub Al true) (both (eqb i.rd pc) (eqb i.rn lr))
 
 -- ldr pc, *
 unfoldable pub is_ldr_pc : Ins → Bool
-is_ldr_pc i = both (is_when i Ldr al) (eqb i.rd pc)
+is_ldr_pc i = both (is_when i Ldr Al) (eqb i.rd pc)
 
 -- eor pc, *, *, ror *
 unfoldable pub is_eor_pc : Ins → Bool
-is_eor_pc i = both (is_data i Eor al false) (both (eqb i.rd pc) (is_ror_by_register i.op2))
+is_eor_pc i = both (is_data i Eor Al false) (both (eqb i.rd pc) (is_ror_by_register i.op2))
 
 -- add pc, *, *, lsl #*, but for the jump into a table
 unfoldable pub is_add_pc : Ins → Bool
-is_add_pc i = both (is_data i Add al false) (both (eqb i.rd pc) (both (is_lsl_by_number i.op2) (not (eqb i.rn pc))))
+is_add_pc i = both (is_data i Add Al false) (both (eqb i.rd pc) (both (is_lsl_by_number i.op2) (not (eqb i.rn pc))))
 
 unfoldable pub is_return_always : ℕ → Ins → Bool
 is_return_always address i =
@@ -146,11 +143,11 @@ is_return_always address i =
 
 -- adds r0, r0, #4
 unfoldable pub is_adds_four : Ins → Bool
-is_adds_four i = both (is_data i Add al true) (both (eqb i.rd 0) (both (eqb i.rn 0) (is_four i.op2)))
+is_adds_four i = both (is_data i Add Al true) (both (eqb i.rd 0) (both (eqb i.rn 0) (is_four i.op2)))
 
 -- adds r0, r0, #4 and then bne: the source takes this for a return
 unfoldable pub is_return_after : Ins → Previous → Bool
-is_return_after i previous = both (is_when i B ne) previous.is_adds_four
+is_return_after i previous = both (is_when i B Ne) previous.is_adds_four
 
 unfoldable pub is_return : ℕ → Ins → Previous → Bool
 is_return address i previous = pick (is_conditional i.cond) (is_return_after i previous) (is_return_always address i)
@@ -174,6 +171,11 @@ is_stack_store i = both (is i.class Str) (is_off_sp i.addr)
 -- prev_ins, as far as the walk asks
 unfoldable pub as_previous : Ins → Previous
 as_previous i = record { is_branch = is_branch i; is_conditional = is_conditional i.cond; is_adds_four = is_adds_four i }
+
+-- a mode's number in a row of the calls
+abbrev pub mode_no : Mode → ℕ
+mode_no Arm = 0
+mode_no Thumb = 1
 
 -- Function::is_function_call
 unfoldable pub called_by : Ins → Option Mode

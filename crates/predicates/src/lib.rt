@@ -4,13 +4,11 @@
 ghost use Rattle.std.specs.Prelude.{◌≡◌, ◌<◌, ◌/◌, ◌%◌, ◌^◌, eqb};
 ghost use Rattle.predicates.specs.Predicates.{is_entry_instruction, is_branch, is_off_pc, is_pool_load, offset_of, pool_address};
 ghost use Rattle.predicates.specs.Predicates.{is_bx, is_mov_pc, is_ldm_pc, is_pop_pc, is_branch_back, is_subs_pc_lr, is_ldr_pc, is_eor_pc, is_add_pc};
-ghost use Rattle.predicates.specs.Predicates.{is_return_always, is_adds_four, is_return_after, is_return, is_nop, is_push, is_off_sp, is_stack_store, as_previous, called_by};
+ghost use Rattle.predicates.specs.Predicates.{is_return_always, is_adds_four, is_return_after, is_return, is_nop, is_push, is_off_sp, is_stack_store, as_previous, mode_no, called_by};
 
-use analysis::pattern::{AL, LR, PC, SP, is_data, is_register, is_when};
+use analysis::pattern::{LR, PC, SP, is_data, is_register, is_when};
 use arm::Ins;
-use classes::{AddrLdrStr, Class, LdmStmMode, LdrStrOffset, Op2, ShiftOp};
-
-const NE: u8 = 1;
+use classes::{AddrLdrStr, Class, Cond, LdmStmMode, LdrStrOffset, Op2, ShiftOp};
 
 // What the walk asks of the word that the step before found: of none, all is false.
 #[derive(Clone, Copy, Default)]
@@ -25,6 +23,14 @@ pub struct Previous {
 pub enum Mode {
     Arm = 0,
     Thumb = 1,
+}
+
+impl From<Mode> for u32 {
+    ghost from_gives = { λ mode n. n ≡ mode_no mode };
+
+    fn from(mode: Mode) -> u32 {
+        mode as u32
+    }
 }
 
 // A register stands in a list.
@@ -88,7 +94,8 @@ fn offset_of(addr: AddrLdrStr) -> i32
     }
 }
 
-// Where a pool load reads: the mask comes after the sum. A sum that leaves 32 bits names no address.
+// Where a pool load reads: the mask comes after the sum. A sum that leaves 32 bits names no address, and gives 0, which no code holds: one test, for
+// a word there, refuses both.
 #[tactic(auto, unfolding(crate::specs::Predicates::pool_address, crate::specs::Predicates::pool_from))]
 pub fn pool_address(address: u32, ins: Ins) -> u32
     ensures { result ≡ pool_address address ins }
@@ -103,7 +110,7 @@ pub fn pool_address(address: u32, ins: Ins) -> u32
 pub fn is_bx(ins: Ins) -> bool
     ensures { result ≡ is_bx ins }
 {
-    is_when(ins, Class::Bx, AL)
+    is_when(ins, Class::Bx, Cond::Al)
 }
 
 // mov pc, *
@@ -111,7 +118,7 @@ pub fn is_bx(ins: Ins) -> bool
 fn is_mov_pc(ins: Ins) -> bool
     ensures { result ≡ is_mov_pc ins }
 {
-    is_data(ins, Class::Mov, AL, false) && ins.rd == PC
+    is_data(ins, Class::Mov, Cond::Al, false) && ins.rd == PC
 }
 
 // ldmia *, {.., pc}
@@ -119,7 +126,7 @@ fn is_mov_pc(ins: Ins) -> bool
 fn is_ldm_pc(ins: Ins) -> bool
     ensures { result ≡ is_ldm_pc ins }
 {
-    is_when(ins, Class::Ldm, AL) && ins.mode == LdmStmMode::Ia && has(ins.regs, PC)
+    is_when(ins, Class::Ldm, Cond::Al) && ins.mode == LdmStmMode::Ia && has(ins.regs, PC)
 }
 
 // pop {.., pc}
@@ -127,7 +134,7 @@ fn is_ldm_pc(ins: Ins) -> bool
 fn is_pop_pc(ins: Ins) -> bool
     ensures { result ≡ is_pop_pc ins }
 {
-    is_when(ins, Class::Pop, AL) && has(ins.regs, PC)
+    is_when(ins, Class::Pop, Cond::Al) && has(ins.regs, PC)
 }
 
 // a branch backwards, or to itself
@@ -135,7 +142,7 @@ fn is_pop_pc(ins: Ins) -> bool
 fn is_branch_back(address: u32, ins: Ins) -> bool
     ensures { result ≡ is_branch_back address ins }
 {
-    is_when(ins, Class::B, AL) && ins.target <= address
+    is_when(ins, Class::B, Cond::Al) && ins.target <= address
 }
 
 // subs pc, lr, *
@@ -143,7 +150,7 @@ fn is_branch_back(address: u32, ins: Ins) -> bool
 fn is_subs_pc_lr(ins: Ins) -> bool
     ensures { result ≡ is_subs_pc_lr ins }
 {
-    is_data(ins, Class::Sub, AL, true) && ins.rd == PC && ins.rn == LR
+    is_data(ins, Class::Sub, Cond::Al, true) && ins.rd == PC && ins.rn == LR
 }
 
 // ldr pc, *
@@ -151,7 +158,7 @@ fn is_subs_pc_lr(ins: Ins) -> bool
 fn is_ldr_pc(ins: Ins) -> bool
     ensures { result ≡ is_ldr_pc ins }
 {
-    is_when(ins, Class::Ldr, AL) && ins.rd == PC
+    is_when(ins, Class::Ldr, Cond::Al) && ins.rd == PC
 }
 
 // eor pc, *, *, ror *
@@ -159,7 +166,7 @@ fn is_ldr_pc(ins: Ins) -> bool
 fn is_eor_pc(ins: Ins) -> bool
     ensures { result ≡ is_eor_pc ins }
 {
-    is_data(ins, Class::Eor, AL, false)
+    is_data(ins, Class::Eor, Cond::Al, false)
         && ins.rd == PC
         && matches!(
             ins.op2,
@@ -175,7 +182,7 @@ fn is_eor_pc(ins: Ins) -> bool
 fn is_add_pc(ins: Ins) -> bool
     ensures { result ≡ is_add_pc ins }
 {
-    is_data(ins, Class::Add, AL, false)
+    is_data(ins, Class::Add, Cond::Al, false)
         && ins.rd == PC
         && matches!(
             ins.op2,
@@ -207,7 +214,7 @@ fn is_return_always(address: u32, ins: Ins) -> bool
 fn is_adds_four(ins: Ins) -> bool
     ensures { result ≡ is_adds_four ins }
 {
-    is_data(ins, Class::Add, AL, true)
+    is_data(ins, Class::Add, Cond::Al, true)
         && ins.rd == 0
         && ins.rn == 0
         && matches!(ins.op2, Op2::Imm(4))
@@ -218,7 +225,7 @@ fn is_adds_four(ins: Ins) -> bool
 fn is_return_after(ins: Ins, previous: Previous) -> bool
     ensures { result ≡ is_return_after ins previous }
 {
-    is_when(ins, Class::B, NE) && previous.is_adds_four
+    is_when(ins, Class::B, Cond::Ne) && previous.is_adds_four
 }
 
 #[tactic(auto, unfolding(crate::specs::Predicates::is_return))]

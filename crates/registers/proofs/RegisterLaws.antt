@@ -86,3 +86,6 @@ missing-lowest zero r uses defined e h = e
 missing-lowest (suc n) r uses defined e h =
     one-finds n r uses defined h (missing-lowest n (r + 1) (uses / 2) (defined / 2) (omega arith) (omega (arith, pow-suc 2 n))) (uses % 2) (defined % 2) refl refl
     (mod-lt uses (zero-lt-suc 1)) (mod-lt defined (zero-lt-suc 1))
+
+pub missing_by_zeros : (uses defined : ℕ) → defined < 0x1_0000 → count_trailing_zeros 16 (bit_and uses (0xFFFF - defined)) ≡ missing_from 16 0 uses defined
+missing_by_zeros uses defined h = let lowest = missing-lowest 16 0 uses defined refl h in omega arith

@@ -32,13 +32,11 @@ fn is_request(input: &[u8]) -> bool
     input[25] <= 1
 }
 
+#[tactic(auto, unfolding(crate::specs::Request::known_end))]
 fn known_end(end: u32) -> Option<u32>
     ensures { result ≡ known_end end }
 {
-    if end == 0 {
-        return None;
-    }
-    Some(end)
+    (end != 0).then_some(end)
 }
 
 #[tactic(auto, unfolding(crate::specs::Request::request_of))]

@@ -1,13 +1,13 @@
 -- The laws of an insert: the numbers that it moves and writes are those of the map after it.
 -- Assumes nothing.
 use Rattle.base.proofs.Prelude.{◌∙◌, sym, refl, ◌≡◌, ap, false, true, Bool, List, [], ◌∷◌, ◌++◌, append_assoc, ◌≤◌, ℕ, ◌+◌, ◌<◌}
-use Rattle.base.proofs.Prelude.{◌-◌, suc, ◌*◌, zero, arith, le_of_suc-le-suc, not-suc-le-zero, zero-mul, suc-mul, add-one, leb, length, get_or, drop}
+use Rattle.base.proofs.Prelude.{◌-◌, suc, ◌*◌, zero, arith, le_of_suc-le-suc, not-suc-le-zero, zero-mul, suc-mul, add-one, leb, length, drop}
 use Rattle.base.proofs.Prelude.{take, replicate, length-set, set, length-take-le, take_at, drop_at}
-use Rattle.base.proofs.Prelude.{get_or-take, le-leb, lt-leb}
+use Rattle.base.proofs.Prelude.{le-leb, lt-leb}
 use Rattle.std.specs.List.{copy_within}
 use Rattle.std.specs.Prelude.{Result, Ok, Err}
 use Rattle.std.proofs.lemmas.List.{drop-take}
-use lib.Seq.{slice, paste, take-append-le, drop-append-le, take-append-add, drop-append-add, take-take}
+use lib.Seq.{slice, paste, take-append-le, drop-append-le, take-append-add, drop-append-add, take-take, take_all}
 use Rattle.base.specs.Choice.{pick}
 use Rattle.rows.specs.Rows.{padded, insert_at, rank, stands, inserted}
 use Rattle.rows.proofs.RowLaws.{insert_at-length, rank-within, stands-within, inserted-is, inserted-length, ascending-kept}
@@ -157,37 +157,41 @@ module _ {k n : ℕ} {list : List ℕ} (row : List ℕ) (h : Held k n list) (wid
     leaves = refl;
   }
 
--- ---- the same, as the code meets it: the address is the row's first number, and its place the one that the search found
+-- ---- the same, as the code meets it: the address is the row's first number, and its place the one that the search found among the rows
 
-module _ {k n : ℕ} {list : List ℕ} (row : List ℕ) (h : Held k n list) (wide : k ≤ length row) {at : ℕ} (found : at ≡ rank key_of (get_or row 0 0) (map_in k n list)) where
-  key : get_or row 0 0 ≡ key_of (take k row)
-  key = sym (get_or-take k row 0 0 h.some)
+module _ {k n : ℕ} {list : List ℕ} (row : List ℕ) {rows : List (List ℕ)} (h : Held k n list) (long : length row ≡ k) (are : rows ≡ map_in k n list)
+    {at : ℕ} (found : at ≡ rank key_of (key_of row) rows) where
+  whole : take k row ≡ row
+  whole = take_all k row (omega arith)
+
+  wide : k ≤ length row
+  wide = omega arith
 
   place : at ≡ rank key_of (key_of (take k row)) (map_in k n list)
-  place = rw (← key) found
+  place = rw (whole, ← are) found
 
-  standing : {b : Bool} → b ≡ holds_at (map_in k n list) at (get_or row 0 0) → stands key_of (key_of (take k row)) (map_in k n list) ≡ b
-  standing e = rw (← key) (sym (e ∙ rw found (stands_at (map_in k n list) (get_or row 0 0))))
+  standing : {b : Bool} → b ≡ holds_at rows at (key_of row) → stands key_of (key_of (take k row)) (map_in k n list) ≡ b
+  standing e = rw (whole, ← are) (sym (e ∙ rw found (stands_at rows (key_of row))))
 
   pub at-fits : at * k ≤ length list
   at-fits = rw place (omega (arith, place-fits row h wide, h.fits))
 
-  pub held_fits : true ≡ holds_at (map_in k n list) at (get_or row 0 0) → at * k + k ≤ length list
-  held_fits e = rw place (omega (arith, place-held row h wide (standing e), h.fits))
+  pub held_fits : true ≡ holds_at rows at (key_of row) → at * k + length row ≤ length list
+  held_fits e = rw (place, long) (omega (arith, place-held row h wide (standing e), h.fits))
 
   pub before-end : at * k ≤ n * k
   before-end = rw place (place-fits row h wide)
 
-  pub replaces : {after : List ℕ} → true ≡ holds_at (map_in k n list) at (get_or row 0 0) → after ≡ paste list (at * k) row k
-      → Inserted k n list (take k row) (Ok Replaced) after
-  replaces e left = replaced row h wide (standing e) (rw (← place) left)
+  pub replaces : {after : List ℕ} → true ≡ holds_at rows at (key_of row) → after ≡ paste list (at * k) row (length row)
+      → Inserted k n list row (Ok Replaced) after
+  replaces {after} e left = rw whole at (replaced row h wide {after = after} (standing e) (rw (← place) (rw long at left)))
 
-  pub adds : {after : List ℕ} → false ≡ holds_at (map_in k n list) at (get_or row 0 0) → n * k + k ≤ length list
-      → after ≡ paste (opened list (at * k) (n * k) k) (at * k) row k → Inserted k n list (take k row) (Ok Added) after
-  adds e room left = added row h wide (standing e) room (rw (← place) left)
+  pub adds : {after : List ℕ} → false ≡ holds_at rows at (key_of row) → n * k + k ≤ length list
+      → after ≡ paste (opened list (at * k) (n * k) k) (at * k) row (length row) → Inserted k n list row (Ok Added) after
+  adds {after} e room left = rw whole at (added row h wide {after = after} (standing e) room (rw (← place) (rw long at left)))
 
-  pub is-full : false ≡ holds_at (map_in k n list) at (get_or row 0 0) → length list < n * k + k → Inserted k n list (take k row) (Err ListFull) list
-  is-full e none = full row h wide (standing e) none
+  pub is-full : false ≡ holds_at rows at (key_of row) → length list < n * k + k → Inserted k n list row (Err ListFull) list
+  is-full e none = rw whole at (full row h wide (standing e) none)
 
 -- ---- the answer with the count after it
 

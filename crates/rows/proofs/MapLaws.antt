@@ -5,7 +5,7 @@ use Rattle.base.proofs.Prelude.{zero, arith, le_of_suc-le-suc, not-suc-le-zero, 
 use Rattle.base.proofs.Prelude.{length-drop, length-append, length-replicate, length-take-le, take_at, drop_at, drop-drop, get_or-drop, get_or-take}
 use Rattle.base.proofs.Prelude.{le-leb, leb-true}
 use native.Mathlib.Nat.{mul-le-mul_right}
-use lib.ListN.{replicate-append-replicate, get_or-map}
+use lib.ListN.{replicate-append-replicate}
 use lib.Seq.{take-add}
 use Rattle.std.specs.Simd.{first_chunks}
 use Rattle.rows.specs.Order.{rising, ascending, zeros, cleared}
@@ -49,12 +49,6 @@ field_at k n i j xs h l =
 
 pub row-key : (k n i : ℕ) (xs : List ℕ) → 0 < k → i < n → key_of (get_or (map_in k n xs) i []) ≡ get_or xs (i * k) 0
 row-key k n i xs s h = field_at k n i 0 xs h s ∙ ap (λ (j : ℕ). get_or xs j 0) (add-zero (i * k))
-
-pub key-at : (k n i : ℕ) (xs : List ℕ) → 0 < k → i < n → get_or (map key_of (map_in k n xs)) i 0 ≡ get_or xs (i * k) 0
-key-at k n i xs s h = get_or-map key_of (map_in k n xs) i [] ∙ row-key k n i xs s h
-
-pub key-first : (k n : ℕ) (xs : List ℕ) → 0 < k → 0 < n → get_or (map key_of (map_in k n xs)) 0 0 ≡ get_or xs 0 0
-key-first k n xs s h = key-at k n 0 xs s h ∙ ap (λ (j : ℕ). get_or xs j 0) (zero-mul k)
 
 pub map-wide : (k n : ℕ) (xs : List ℕ) → n * k ≤ length xs → Wide k (map_in k n xs)
 unfolding map_in

@@ -1,14 +1,14 @@
 -- The laws of `ascending`, `zeros` and what follows from them.
 -- Assumes nothing.
-use Rattle.base.proofs.Prelude.{◌∙◌, sym, refl, ◌≡◌, ap, false, true, List, [], ◌∷◌, ◌++◌, ◌≤◌, ℕ, ◌+◌, ◌<◌, ◌-◌, suc, zero, arith}
-use Rattle.base.proofs.Prelude.{le_of_suc-le-suc, not-suc-le-zero, add-one, eqb, ltb, leb, length, get_or, drop, take, replicate, length-drop}
-use Rattle.base.proofs.Prelude.{length-append, take-append-drop, length-take-le, eq-eqb, lt-ltb, le-ltb, le-leb}
+use Rattle.base.proofs.Prelude.{◌∙◌, sym, refl, ◌≡◌, ap, false, true, List, [], ◌∷◌, ◌++◌, ◌≤◌, ℕ, ◌<◌, ◌-◌, suc, zero, arith}
+use Rattle.base.proofs.Prelude.{le_of_suc-le-suc, not-suc-le-zero, zero-le, suc-le-suc, add-one, eqb, ltb, leb, length, get_or, drop, take, map}
+use Rattle.base.proofs.Prelude.{replicate, length-drop, length-append, take-append-drop, length-take-le, eq-eqb, le-leb}
 use Rattle.base.proofs.Prelude.{leb-true, eqb-true, ltb-true}
 use native.Mathlib.Nat.{lt_trans}
-use lib.Seq.{slice-cons, slice_empty, drop-append_seam}
+use lib.Seq.{drop-append_seam}
 use Rattle.std.specs.Prelude.{Bool, ◌&&◌}
-use Rattle.std.specs.List.{list_all}
-use Rattle.base.specs.Choice.{pick}
+use Rattle.std.specs.List.{list_all, IsAllAdjacentAnswer}
+use Rattle.base.specs.Choice.{pick, both}
 use Rattle.base.proofs.ChoiceLaws.{both_first, both-second}
 use Rattle.rows.specs.Order.{rising, ascending, zeros, cleared}
 use Rattle.rows.specs.Rows.{padded}
@@ -67,26 +67,24 @@ zeros-all (x ∷ xs) = step (eqb x 0) (zeros-all xs)
     step true e = e
     step false e = refl
 
--- ---- turns of the loop over the addresses
+-- ---- neighbours that are each below the next
 
-pub rising-start : (c : List ℕ) (n : ℕ) → 0 < n → n ≤ length c → ascending (take n c) ≡ rising (get_or c 0 0) (drop 1 (take n c))
-unfolding ascending
-rising-start c zero l h = absurd (not-suc-le-zero l)
-rising-start [] (suc n) l h = absurd (not-suc-le-zero h)
-rising-start (x ∷ xs) (suc n) l h = refl
-
-rising-next : (b : ℕ) (c : List ℕ) (i n : ℕ) → i < n → n ≤ length c
-    → rising b (drop i (take n c)) ≡ pick (ltb b (get_or c i 0)) (rising (get_or c i 0) (drop (i + 1) (take n c))) false
-unfolding rising
-rising-next b c i n l h = rw (slice-cons i n c 0 l h, add-one)
-
-pub rising-more : (b : ℕ) (c : List ℕ) (i n : ℕ) → i < n → n ≤ length c → b < get_or c i 0
-    → rising b (drop i (take n c)) ≡ rising (get_or c i 0) (drop (i + 1) (take n c))
-rising-more b c i n l h up = rw (rising-next b c i n l h, lt-ltb b (get_or c i 0) up)
-
-pub rising-broken : (b : ℕ) (c : List ℕ) (i n : ℕ) → i < n → n ≤ length c → get_or c i 0 ≤ b → rising b (drop i (take n c)) ≡ false
-rising-broken b c i n l h low = rw (rising-next b c i n l h, le-ltb b (get_or c i 0) low)
-
-pub rising-done : (b : ℕ) (c : List ℕ) (n : ℕ) → rising b (drop n (take n c)) ≡ true
-unfolding rising
-rising-done b c n = rw (slice_empty n c)
+pub ascends : {A : Type 0} (key : A → ℕ) (xs : List A) (r : Bool) → IsAllAdjacentAnswer (λ x y b. b ≡ ltb (key x) (key y)) xs r → r ≡ ascending (map key xs)
+unfolding ascending rising
+ascends key [] true h = refl
+ascends key [] false (k, l, low) = absurd (omega arith)
+ascends key (x ∷ []) true h = refl
+ascends key (x ∷ []) false (k, l, low) = absurd (omega arith)
+ascends key (x ∷ y ∷ ys) true h =
+    let first : true ≡ ltb (key x) (key y) = h 0 x (suc-le-suc (suc-le-suc zero-le)) in
+    rw (← first) (ascends key (y ∷ ys) true (λ k e l. rw add-one (rw add-one at (h (suc k) e (omega arith)))))
+ascends key (x ∷ y ∷ ys) false (zero, l, low) =
+    let first : false ≡ ltb (key x) (key y) = low x in
+    rw (← first)
+ascends key (x ∷ y ∷ ys) false (suc k, l, low) =
+    let rest = ascends key (y ∷ ys) false (k, omega arith, λ e. rw add-one (rw add-one at (low e))) in
+    step (ltb (key x) (key y)) rest
+  where
+    step : (b : Bool) → false ≡ rising (key y) (map key ys) → false ≡ both b (rising (key y) (map key ys))
+    step true e = e
+    step false e = refl

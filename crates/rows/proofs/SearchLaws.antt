@@ -1,35 +1,24 @@
 -- The laws of the lookups: an address's place among the rows, met from below and from above.
 -- Assumes nothing.
-use Rattle.base.proofs.Prelude.{◌∙◌, sym, refl, ◌≡◌, false, true, Bool, List, [], ◌∷◌, map, ◌≤◌, ℕ, ◌+◌, ◌<◌, ◌-◌, suc, zero, ◌^◌, ◌/◌}
-use Rattle.base.proofs.Prelude.{zero-le, suc-le-suc, arith, le_of_suc-le-suc, not-suc-le-zero, eqb, ltb, length, get_or, take, eq-eqb, ne_eqb, lt-ltb}
-use Rattle.base.proofs.Prelude.{le-ltb, ltb-true, ltb-false}
+use Rattle.base.proofs.Prelude.{◌∙◌, sym, refl, ◌≡◌, false, true, Bool, List, [], ◌∷◌, map, ◌≤◌, ℕ, ◌+◌, ◌<◌, ◌-◌, suc, zero, ◌^◌}
+use Rattle.base.proofs.Prelude.{zero-le, suc-le-suc, arith, le_of_suc-le-suc, not-suc-le-zero, eqb, ltb, length, get_or, eq-eqb, ne_eqb, lt-ltb}
+use Rattle.base.proofs.Prelude.{le-ltb, ltb-true, ltb-false, ⊎_elim, eq-or-lt_of_le}
 use lib.Dec.{leb-suc-suc}
 use lib.ListN.{length-map, get_or-map}
-use lib.Seq.{take_all}
 use Rattle.base.specs.Choice.{pick}
 use Rattle.rows.specs.Order.{rising, ascending}
 use Rattle.rows.specs.Rows.{rank, stands}
 use Rattle.rows.specs.Run.{gap_from}
-use Rattle.std.specs.Prelude.{Some, None}
+use Rattle.std.specs.Prelude.{Some, None, slice_get}
 use Rattle.std.specs.Bool.{then_some}
 use Rattle.rows.proofs.OrderLaws.{rising-at, rising-ascending}
 use Rattle.rows.proofs.RunLaws.{Going, going_start, going_on, going-beyond, going_end}
-use Rattle.rows.specs.Map.{key_of, map_in, holds_at, first_key, last_key, stands-in}
-use Rattle.rows.proofs.MapLaws.{map-length}
-
--- the rows' addresses
-abbrev pub keys_in : ℕ → ℕ → List ℕ → List ℕ
-keys_in k n list = map key_of (map_in k n list)
-
-pub keys_length : (k n : ℕ) (list : List ℕ) → length (keys_in k n list) ≡ n
-keys_length k n list = length-map (map_in k n list) key_of ∙ map-length k n list
-
-pub keys-whole : (k n : ℕ) (list : List ℕ) → take n (keys_in k n list) ≡ keys_in k n list
-keys-whole k n list = take_all n (keys_in k n list) (omega (arith, keys_length k n list))
-
--- the row in the middle
-abbrev pub mid : ℕ → ℕ → ℕ
-mid lo hi = lo + (hi - lo) / 2
+use Rattle.rows.specs.Map.{key_of, holds_at, first_key, last_key, stands-in}
+use Rattle.rows.proofs.RowLaws.{rank-within}
+use Rattle.std.specs.List.Sorted.{IsNonDecreasingBy, IsPartitionPoint}
+use Rattle.std.proofs.Common.{option_map}
+use Rattle.std.proofs.lemmas.Bool.{cases_lt}
+use Rattle.std.proofs.lemmas.List.Sorted.{IsNonDecreasingBy-from_default}
 
 -- ---- an address's place
 
@@ -59,6 +48,28 @@ rank_down (r ∷ rs) x (suc i) h l = step (ltb (key_of r) x) (rank_down rs x i (
     step true q = suc-le-suc q
     step false q = zero-le
 
+-- a map's rows rise
+pub rows-rise : (m : List (List ℕ)) → ascending (map key_of m) ≡ true → IsNonDecreasingBy key_of m
+unfolding ascending
+rows-rise m e = IsNonDecreasingBy-from_default key_of m [] (up m e)
+  where
+    up : (m : List (List ℕ)) → ascending (map key_of m) ≡ true → (i j : ℕ) → i ≤ j → j < length m → key_of (get_or m i []) ≤ key_of (get_or m j [])
+    up [] e i j le h = absurd (not-suc-le-zero h)
+    up (r ∷ rs) e zero zero le h = omega arith
+    up (r ∷ rs) e zero (suc j) le h = omega (arith, key-over (key_of r) rs j e (le_of_suc-le-suc h))
+    up (r ∷ rs) e (suc i) zero le h = absurd (omega arith)
+    up (r ∷ rs) e (suc i) (suc j) le h = up rs (rising-ascending (key_of r) (map key_of rs) e) i j (le_of_suc-le-suc le) (le_of_suc-le-suc h)
+
+-- an address's place parts the rows below it from the others
+pub parted-rank : (m : List (List ℕ)) (x i : ℕ) → ascending (map key_of m) ≡ true → i ≤ length m
+    → IsPartitionPoint (λ r. ltb (key_of r) x ≡ true) (λ r. ltb (key_of r) x ≡ false) m i → i ≡ rank key_of x m
+parted-rank m x i e h parted =
+    let within : rank key_of x m ≤ length m = rank-within key_of x m in
+    ⊎_elim
+    (λ low. omega (arith, rank_up m x (rank key_of x m) e (omega arith) (ltb-true _ _ (parted.0 (rank key_of x m) [] zero-le low))))
+    (λ high. ⊎_elim (λ same. same) (λ less. omega (arith, rank_down m x i (omega arith) (ltb-false _ _ (parted.1 i [] (omega arith) (omega arith))))) (eq-or-lt_of_le high))
+    (cases_lt (rank key_of x m) i)
+
 -- an address is held exactly where the row at its place has it
 pub stands_at : (m : List (List ℕ)) (x : ℕ) → holds_at m (rank key_of x m) x ≡ stands key_of x m
 unfolding stands holds_at rank
@@ -75,30 +86,20 @@ pub then-pick : (b : Bool) (i : ℕ) → then_some b i ≡ pick b (Some i) None
 then-pick true i = refl
 then-pick false i = refl
 
--- ---- the first and the last row
+-- ---- the first and the last row, as the library has them
 
-pub first-is : (m : List (List ℕ)) → 0 < length m → Some (key_of (get_or m 0 [])) ≡ first_key m
+pub first-got : (m : List (List ℕ)) → option_map key_of (slice_get m 0) ≡ first_key m
 unfolding first_key
-first-is [] h = absurd (not-suc-le-zero h)
-first-is (r ∷ rs) h = refl
+first-got [] = refl
+first-got (r ∷ rs) = refl
 
-pub last-is : (m : List (List ℕ)) (i : ℕ) → length m ≡ suc i → Some (key_of (get_or m i [])) ≡ last_key m
+pub last-got : (m : List (List ℕ)) → option_map key_of (slice_get m (length m - 1)) ≡ last_key m
 unfolding last_key
-last-is [] i h = absurd (omega arith)
-last-is (r ∷ []) zero h = refl
-last-is (r ∷ []) (suc i) h = absurd (omega arith)
-last-is (r ∷ s ∷ rs) zero h = absurd (omega arith)
-last-is (r ∷ s ∷ rs) (suc i) h = last-is (s ∷ rs) i (omega arith)
-
-pub none_first : (m : List (List ℕ)) → length m ≡ 0 → None ≡ first_key m
-unfolding first_key
-none_first [] h = refl
-none_first (r ∷ rs) h = absurd (omega arith)
-
-pub none_last : (m : List (List ℕ)) → length m ≡ 0 → None ≡ last_key m
-unfolding last_key
-none_last [] h = refl
-none_last (r ∷ rs) h = absurd (omega arith)
+last-got [] = refl
+last-got (r ∷ []) = refl
+last-got (r ∷ s ∷ rs) =
+    let e : length (r ∷ s ∷ rs) - 1 ≡ suc (length (s ∷ rs) - 1) = omega arith in
+    rw e (last-got (s ∷ rs))
 
 -- ---- the run of steps of 4: what is left of it, from x on, leads to the same answer, and x's place is not passed
 pub record Scanned (m : List (List ℕ)) (address x at : ℕ) : Type 0 where

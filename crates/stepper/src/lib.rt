@@ -2,14 +2,16 @@
 #![tactic(auto)]
 
 ghost use Rattle.std.specs.Prelude.{◌≡◌};
-ghost use Rattle.context.specs.Lists.{lists, zeroed};
+ghost use Rattle.lists.specs.Lists.{lists_of, IsSame};
 ghost use Rattle.stepper.specs.Stepper.{Called, is_going, refused, begin, step, finish};
 
 use base::refusal::Refusal;
+use calls::CallList;
+use context::Module;
+use lists::Lists;
 use outcome::no_counts;
-use rows::order::zero;
 use walk::into_function::new;
-use walk::{Answer, Counts, Options, Walk};
+use walk::{Answer, Counts, Walk};
 
 // What a call answers, with the walk that it leaves.
 #[derive(Clone, Copy)]
@@ -34,45 +36,18 @@ pub fn refused(refusal: Refusal) -> Answer
     }
 }
 
-// Zeros in every place of every list.
-pub fn zero_all(
-    labels: &mut [u32],
-    pools: &mut [u32],
-    jump_tables: &mut [u32],
-    inline_tables: &mut [u32],
-    calls: &mut [u32],
-)
-    ensures { (lists labels.new pools.new jump_tables.new inline_tables.new calls.new) ≡ zeroed (lists labels.old pools.old jump_tables.old inline_tables.old calls.old) }
-{
-    zero(labels);
-    zero(pools);
-    zero(jump_tables);
-    zero(inline_tables);
-    zero(calls);
-}
-
 // A walk from a start. Where the checks pass, every list is empty after it; else the counts come back in the walk.
-pub fn begin(
-    o: Options,
-    start: u32,
-    code: &[u8],
-    starts: &[u32],
-    labels: &mut [u32],
-    pools: &mut [u32],
-    jump_tables: &mut [u32],
-    inline_tables: &mut [u32],
-    calls: &mut [u32],
-    counts: Counts,
-) -> Answered
-    ensures { Called result (lists labels.new pools.new jump_tables.new inline_tables.new calls.new) (begin o start code.now starts.now counts (lists labels.old pools.old jump_tables.old inline_tables.old calls.old)) }
+pub fn begin<C: CallList>(m: Module, start: u32, lists: &mut Lists<C>, counts: Counts) -> Answered
+    ensures same { IsSame C.is_same lists.old lists.new }
+    ensures called { Called result (lists_of C.numbers lists.new) (begin m.entry.options start m.entry.code.now m.entry.starts.now counts (lists_of C.numbers lists.old)) }
 {
-    if let Err(refusal) = validity::begin(o, start, code.len(), starts) {
+    if let Err(refusal) = validity::begin(m.options, start, m.code.len(), m.starts) {
         return Answered {
             walk: new(start, counts),
             answer: refused(refusal),
         };
     }
-    zero_all(labels, pools, jump_tables, inline_tables, calls);
+    lists.zero();
     Answered {
         walk: new(start, no_counts()),
         answer: Answer::Going,
@@ -80,18 +55,9 @@ pub fn begin(
 }
 
 // One instruction, or one piece of data skipped. The checks are made anew, since a host may have written to the lists or the walk.
-pub fn step(
-    o: Options,
-    w: Walk,
-    code: &[u8],
-    starts: &[u32],
-    labels: &mut [u32],
-    pools: &mut [u32],
-    jump_tables: &mut [u32],
-    inline_tables: &mut [u32],
-    calls: &mut [u32],
-) -> Answered
-    ensures { Called result (lists labels.new pools.new jump_tables.new inline_tables.new calls.new) (step o code.now starts.now w (lists labels.old pools.old jump_tables.old inline_tables.old calls.old)) }
+pub fn step<C: CallList>(m: Module, w: Walk, lists: &mut Lists<C>) -> Answered
+    ensures same { IsSame C.is_same lists.old lists.new }
+    ensures called { Called result (lists_of C.numbers lists.new) (step m.entry.options m.entry.code.now m.entry.starts.now w (lists_of C.numbers lists.old)) }
 {
     if !is_going(w.result) {
         return Answered {
@@ -99,38 +65,15 @@ pub fn step(
             answer: w.result,
         };
     }
-    let passed = validity::step(
-        o,
-        code.len(),
-        starts,
-        w,
-        labels,
-        pools,
-        jump_tables,
-        inline_tables,
-        calls,
-    );
-    if let Err(refusal) = passed {
+    if let Err(refusal) = validity::step(m.options, m.code.len(), m.starts, w, lists) {
         return Answered {
             walk: w,
             answer: refused(refusal),
         };
     }
-    let after = turn::turn(
-        o,
-        w,
-        code,
-        starts,
-        labels,
-        pools,
-        jump_tables,
-        inline_tables,
-        calls,
-    );
-    Answered {
-        walk: after,
-        answer: after.result,
-    }
+    let walk = turn::turn(m, w, lists);
+    let answer = walk.result;
+    Answered { walk, answer }
 }
 
 // The walk's result, once it has one.

@@ -1,58 +1,44 @@
 -- What the blocks about tables come to, from what their calls hand back.
 -- Assumes nothing.
-use Rattle.base.proofs.Prelude.{refl, ◌≡◌, false, true, Bool, List, [], ◌∷◌, suc, ℕ, ◌+◌, arith, ltb, length}
-use Rattle.base.proofs.Prelude.{ltb-true, ltb-false, lt-ltb, le-ltb}
-use Rattle.std.specs.Prelude.{Option as Optional, Some, None, Result, Ok, Err}
+use Rattle.base.proofs.Prelude.{◌∙◌, refl, ◌≡◌, false, true, Bool, List, [], ◌∷◌, ℕ, arith, ltb, length}
+use Rattle.std.specs.Prelude.{Option as Optional, Some, None, Result, Ok, Err, MatchOption}
 use Rattle.arm.specs.declared.Ins.{Ins}
 use Rattle.analysis.specs.declared.inline_table.InlineTable.{InlineTable}
 use Rattle.analysis.specs.declared.inline_table.InlineTableState.{InlineTableState}
 use Rattle.analysis.specs.declared.jump_table.JumpTable.{JumpTable}
 use Rattle.analysis.specs.declared.jump_table.JumpTableStateArm.{JumpTableStateArm}
 use Rattle.analysis.specs.InlineTable.{inline_table as inline_machine, table_of}
-use Rattle.analysis.specs.JumpTable.{Answer, table_end, jump_table as jump_machine}
+use Rattle.analysis.specs.JumpTable.{table_end, jump_table as jump_machine}
 use Rattle.base.specs.Choice.{pick}
 use Rattle.base.specs.declared.refusal.Refusal.{Refusal}
 use Rattle.base.specs.declared.refusal.Refusal.TheVariants.{Beyond32Bits}
 use Rattle.std.specs.Bool.{then_some}
-use mathlib.Core.Bool.{cond, not}
-use Rattle.std.specs.List.{position_or_len}
-use Rattle.base.specs.declared.refusal.Refusal.TheVariants.{Beyond32Bits}
-use Rattle.rows.specs.Map.{Entering}
+use mathlib.Core.Bool.{cond}
+use Rattle.std.specs.List.{find}
 use Rattle.context.specs.declared.State.{State}
 use Rattle.context.specs.declared.Stepped.{Stepped}
 use Rattle.context.specs.declared.Then.{Then}
-use Rattle.context.specs.declared.Then.TheVariants.{On}
-use Rattle.context.specs.Context.{Context, on, goes, refuses, going_to, table_row, jump_table_to, inline_table_to}
+use Rattle.context.specs.declared.Then.TheVariants.{Refuses}
+use Rattle.context.specs.Context.{Context, Step, on, goes, refuses, going_to, jump_table_to, inline_table_to}
 use Rattle.context.specs.Blocks.{is_within, inline_table_at, raised_to_table, jump_table, inline_table}
-use Rattle.context.specs.State.{Does, same, read, jump_tables_in, inline_tables_in, counted, machined, count_jump_tables, count_inline_tables}
+use Rattle.context.specs.State.{World, Holds, Does, same, read, context_of, counted, machined, count_jump_tables, count_inline_tables, jump_tables_in, inline_tables_in}
 use Rattle.context.proofs.Laws.{full-refusal, entered-in, entered-full, jump-tables-held, inline-tables-held}
-use Rattle.tables.specs.Tables.{Finds, table_data, skipped, refused_or, unless_refused}
+use Rattle.tables.specs.Tables.{Finds, table_data, skipped, EnteringFound, unless_refused}
 
 -- ---- the search among the inline tables
 
-found-at : (a : ℕ) (m : List (List ℕ)) (b : Bool) → ltb (position_or_len (is_within a) m) (length m) ≡ b
-    → Finds a m (cond b (Some (position_or_len (is_within a) m)) None)
-unfolding inline_table_at
-found-at a [] true e = let l = ltb-true 0 0 e in absurd (omega arith)
-found-at a [] false e = refl
-found-at a (t ∷ ts) b e = step (is_within a t) b refl e (found-at a ts)
-  where
-    step : (w b : Bool) → is_within a t ≡ w → ltb (cond (not w) (1 + position_or_len (is_within a) ts) 0) (suc (length ts)) ≡ b
-        → ((b : Bool) → ltb (position_or_len (is_within a) ts) (length ts) ≡ b → Finds a ts (cond b (Some (position_or_len (is_within a) ts)) None))
-        → Finds a (t ∷ ts) (cond b (Some (cond (not w) (1 + position_or_len (is_within a) ts) 0)) None)
-    step true true q e more = (omega arith, rw q)
-    step true false q e more = let l = ltb-false 0 (suc (length ts)) e in absurd (omega arith)
-    step false true q e more =
-        let l = ltb-true (1 + position_or_len (is_within a) ts) (suc (length ts)) e in
-        let s : 1 + position_or_len (is_within a) ts ≡ suc (position_or_len (is_within a) ts) = omega arith in
-        let rest = more true (lt-ltb (position_or_len (is_within a) ts) (length ts) (omega arith)) in
-        rw (s, q) (omega arith, rest.1)
-    step false false q e more =
-        let l = ltb-false (1 + position_or_len (is_within a) ts) (suc (length ts)) e in
-        rw q (more false (le-ltb (position_or_len (is_within a) ts) (length ts) (omega arith)))
+finds-by : (a : ℕ) (m n : List (List ℕ)) (r : Optional (List ℕ)) → inline_table_at a n ≡ inline_table_at a m → Finds a m r → Finds a n r
+finds-by a m n None e f = e ∙ f
+finds-by a m n (Some table) e f = e ∙ f
 
-pub finds : (a : ℕ) (m : List (List ℕ)) → Finds a m (cond (ltb (position_or_len (is_within a) m) (length m)) (Some (position_or_len (is_within a) m)) None)
-finds a m = found-at a m (ltb (position_or_len (is_within a) m) (length m)) refl
+pub finds : (a : ℕ) (m : List (List ℕ)) → Finds a m (find (is_within a) m)
+unfolding inline_table_at
+finds a [] = refl
+finds a (t ∷ ts) = step (is_within a t) refl (finds a ts)
+  where
+    step : (w : Bool) → is_within a t ≡ w → Finds a ts (find (is_within a) ts) → Finds a (t ∷ ts) (cond w (Some t) (find (is_within a) ts))
+    step true q rest = rw q
+    step false q rest = finds-by a ts (t ∷ ts) (find (is_within a) ts) (rw q) rest
 
 pub skipped-pool : (b : Bool) (end : ℕ) (c : Context) → skipped (Ok (then_some b end)) c ≡ pick b (goes (going_to end c)) (on c)
 skipped-pool true end c = refl
@@ -67,83 +53,117 @@ skipped-table end c = step (ltb end 0x1_0000_0000)
 
 -- ---- a step that may be refused
 
-pub read-refused : (r : Optional Refusal) (t : Then) (c : Context) → read (refused_or r t) c ≡ unless_refused r (read t c)
-read-refused None t c = refl
-read-refused (Some r) t c = refl
+pub refused-then : (o : Optional Refusal) (t u : Then) → MatchOption o (u ≡ t) (λ r. u ≡ Refuses r 0) → (c : Context) → read u c ≡ unless_refused o (read t c)
+refused-then None t u e c = rw e
+refused-then (Some r) t u e c = rw e
 
--- ---- jump table
+-- ---- what a block finds
 
-module _ (i : Ins) (s : State) {answer : Answer} {machine : JumpTableStateArm} {count : ℕ} {refusal : Optional Refusal} {n t : State} {r : Stepped} {before after : List ℕ}
-    (is : answer ≡ jump_machine s.machines.jump_table s.progress.address i)
-    (ne : n ≡ counted (count_jump_tables count s.counts) s)
-    (te : t ≡ machined (jump_table_to machine n.machines) n)
-    (d : Does same same (λ c. unless_refused refusal (raised_to_table (table_end machine) c)) t r) where
-  pub jump-next : {next : JumpTableStateArm} {found : Optional JumpTable} → answer ≡ Ok (next, found) → found ≡ None
-      → after ≡ before → machine ≡ next → count ≡ s.counts.jump_tables → refusal ≡ None
-      → Does (jump_tables_in before) (jump_tables_in after) (jump_table i) s r
+-- the state with a machine's next state and its tables' count
+abbrev pub with_jump_table : JumpTableStateArm × ℕ → State → State
+with_jump_table (machine, n) s = machined (jump_table_to machine s.machines) (counted (count_jump_tables n s.counts) s)
+
+abbrev pub with_inline_table : InlineTableState × ℕ → State → State
+with_inline_table (machine, n) s = machined (inline_table_to machine s.machines) (counted (count_inline_tables n s.counts) s)
+
+-- a block up to what it finds: it then is the rest of it, from the state with that, or a refusal
+abbrev pub Finding : {X : Type 0} → (X → State → State) → (X → Context → Step) → (World → World) → (World → World) → (Context → Step) → State → Result X Refusal → Type 0
+Finding to rest before after block s (Ok x) =
+    (l : World) → Holds s.counts (before l) → Holds (to x s).counts (after l) × (rest x (context_of (to x s) (after l)) ≡ block (context_of s (before l)))
+Finding to rest before after block s (Err refusal) =
+    (l : World) → Holds s.counts (before l) → Holds s.counts (after l) × (refuses refusal 0 ≡ block (context_of s (before l)))
+
+module _ {X : Type 0} (to : X → State → State) (rest : X → Context → Step) {before after : World → World} (block : Context → Step) (s : State) where
+  pub found : (x : X) {r : Stepped} → Finding to rest before after block s (Ok x) → (to x s).progress.address ≡ s.progress.address → (to x s).call ≡ s.call
+      → Does same same (rest x) (to x s) r → Does before after block s r
+  found x f a k d = λ l h.
+      let g = f l h in
+      let e = d (after l) g.0 in
+      record { stays = e.stays ∙ a; call = e.call ∙ k; holds = e.holds; says = e.says ∙ g.1 }
+
+  pub refused : (t : State) {refusal : Refusal} {r : Stepped} → Finding to rest before after block s (Err refusal) → t.counts ≡ s.counts
+      → t.progress.address ≡ s.progress.address → t.call ≡ s.call → Does same same (λ c. refuses refusal 0) t r → Does before after block s r
+  refused t f n a k d = λ l h.
+      let g = f l h in
+      let e = d (after l) (rw n g.0) in
+      record { stays = e.stays ∙ a; call = e.call ∙ k; holds = e.holds; says = e.says ∙ g.1 }
+
+-- ---- what the machines find
+
+abbrev pub Jumps : Ins → State → List ℕ → List ℕ → Result (JumpTableStateArm × ℕ) Refusal → Type 0
+Jumps i s before after r = Finding with_jump_table (λ f. raised_to_table (table_end f.0)) (jump_tables_in before) (jump_tables_in after) (jump_table i) s r
+
+pub jump-refused : (i : Ins) (s : State) {refusal : Refusal} {before : List ℕ} → jump_machine s.machines.jump_table s.progress.address i ≡ Err refusal
+    → Jumps i s before before (Err refusal)
+unfolding jump_table
+jump-refused i s q = λ l h. (h, rw q)
+
+module _ (i : Ins) (s : State) {next : JumpTableStateArm} {found : Optional JumpTable} (table : Optional (ℕ × ℕ)) {before after : List ℕ}
+    (is : jump_machine s.machines.jump_table s.progress.address i ≡ Ok (next, found))
+    (as_row : MatchOption found (table ≡ None) (λ t. table ≡ Some (t.address, t.size)))
+    (long : length after ≡ length before) where
+  pub jump-in : {count : ℕ} → EnteringFound s.counts.jump_tables before table (Ok count) after → Jumps i s before after (Ok (next, count))
   unfolding jump_table
-  jump-next q f ae me ce re = λ l h. rw (ae, ← is, q, f) (rw (te, ne, me, ce, re) at (d (jump_tables_in before l)) h)
+  jump-in {count} put = step found is as_row
+    where
+      step : (f : Optional JumpTable) → jump_machine s.machines.jump_table s.progress.address i ≡ Ok (next, f)
+          → MatchOption f (table ≡ None) (λ t. table ≡ Some (t.address, t.size)) → Jumps i s before after (Ok (next, count))
+      step None q e =
+          let p = rw e at put in
+          let same : count ≡ s.counts.jump_tables = cc in
+          rw (same, p.1) (λ l h. (h, rw q))
+      step (Some t) q e =
+          let p = rw e at put in
+          λ l h. (jump-tables-held l h p.held long, rw (q, entered-in _ _ h.jump_table_places p))
 
-  pub jump-in : {next : JumpTableStateArm} {found : Optional JumpTable} {table : JumpTable} {m : ℕ} → answer ≡ Ok (next, found) → found ≡ Some table
-      → Entering table_row s.counts.jump_tables before (table.address ∷ table.size ∷ []) (Ok m) after → length after ≡ length before
-      → machine ≡ next → count ≡ m → refusal ≡ None
-      → Does (jump_tables_in before) (jump_tables_in after) (jump_table i) s r
+  pub jump-full : {refusal : Refusal} → EnteringFound s.counts.jump_tables before table (Err refusal) after → Jumps i s before after (Err refusal)
   unfolding jump_table
-  jump-in q f put long me ce re = λ l h.
-      rw (← is, q, f, entered-in _ _ h.jump_table_places put)
-      (rw (te, ne, me, ce, re) at (d (jump_tables_in after l)) (jump-tables-held l h put.held long))
+  jump-full {refusal} put = step found is as_row
+    where
+      step : (f : Optional JumpTable) → jump_machine s.machines.jump_table s.progress.address i ≡ Ok (next, f)
+          → MatchOption f (table ≡ None) (λ t. table ≡ Some (t.address, t.size)) → Jumps i s before after (Err refusal)
+      step None q e =
+          let p = rw e at put in
+          let z : ◌≡◌ {A = ℕ} 0 1 = cc in
+          absurd (omega (arith, z))
+      step (Some t) q e =
+          let p = rw e at put in
+          λ l h. (jump-tables-held l h p.held long, rw (q, entered-full _ _ h.jump_table_places p, full-refusal p))
 
-  pub jump-full : {next : JumpTableStateArm} {found : Optional JumpTable} {table : JumpTable} {full : Refusal} → answer ≡ Ok (next, found) → found ≡ Some table
-      → Entering table_row s.counts.jump_tables before (table.address ∷ table.size ∷ []) (Err full) after → length after ≡ length before
-      → machine ≡ next → count ≡ s.counts.jump_tables → refusal ≡ Some full
-      → Does (jump_tables_in before) (jump_tables_in after) (jump_table i) s r
-  unfolding jump_table
-  jump-full q f put long me ce re = λ l h.
-      rw (← is, q, f, entered-full _ _ h.jump_table_places put)
-      (rw (te, ne, me, ce, re, full-refusal put) at (d (jump_tables_in after l)) (jump-tables-held l h put.held long))
+abbrev pub Inlines : Ins → State → List ℕ → List ℕ → Result (InlineTableState × ℕ) Refusal → Type 0
+Inlines i s before after r = Finding with_inline_table (λ f. on) (inline_tables_in before) (inline_tables_in after) (inline_table i) s r
 
-  pub jump-refused : {reason : Refusal} → answer ≡ Err reason
-      → after ≡ before → count ≡ s.counts.jump_tables → refusal ≡ Some reason
-      → Does (jump_tables_in before) (jump_tables_in after) (jump_table i) s r
-  unfolding jump_table
-  jump-refused q ae ce re = λ l h. rw (ae, ← is, q) (rw (te, ne, ce, re) at (d (jump_tables_in before l)) h)
+pub inline-refused : (i : Ins) (s : State) {refusal : Refusal} {before : List ℕ}
+    → inline_machine s.machines.inline_table false s.progress.address i ≡ Err refusal → Inlines i s before before (Err refusal)
+unfolding inline_table
+inline-refused i s q = λ l h. (h, rw q)
 
--- ---- inline table
-
-module _ (i : Ins) (s : State) {answer : Result InlineTableState Refusal} {machine : InlineTableState} {count : ℕ} {refusal : Optional Refusal} {n t : State} {r : Stepped} {before after : List ℕ}
-    (is : answer ≡ inline_machine s.machines.inline_table false s.progress.address i)
-    (ne : n ≡ counted (count_inline_tables count s.counts) s)
-    (te : t ≡ machined (inline_table_to machine n.machines) n)
-    (he : r ≡ record { then = refused_or refusal On; state = t }) where
-  pub inline-none : {next : InlineTableState} {found : Optional InlineTable} → answer ≡ Ok next → found ≡ table_of next → found ≡ None
-      → after ≡ before → machine ≡ next → count ≡ s.counts.inline_tables → refusal ≡ None
-      → Does (inline_tables_in before) (inline_tables_in after) (inline_table i) s r
+module _ (i : Ins) (s : State) {next : InlineTableState} (table : Optional (ℕ × ℕ)) {before after : List ℕ}
+    (is : inline_machine s.machines.inline_table false s.progress.address i ≡ Ok next)
+    (as_row : MatchOption (table_of next) (table ≡ None) (λ t. table ≡ Some (t.address, t.size)))
+    (long : length after ≡ length before) where
+  pub inline-in : {count : ℕ} → EnteringFound s.counts.inline_tables before table (Ok count) after → Inlines i s before after (Ok (next, count))
   unfolding inline_table
-  inline-none q n f ae me ce re = λ l h.
-      rw (he, te, ne, ce, re, ae, ← is, q, ← n, f, me) (record { stays = refl; call = refl; holds = h; says = refl })
+  inline-in {count} put = step (table_of next) refl as_row
+    where
+      step : (f : Optional InlineTable) → table_of next ≡ f → MatchOption f (table ≡ None) (λ t. table ≡ Some (t.address, t.size)) → Inlines i s before after (Ok (next, count))
+      step None q e =
+          let p = rw e at put in
+          let same : count ≡ s.counts.inline_tables = cc in
+          rw (same, p.1) (λ l h. (h, rw (is, q)))
+      step (Some t) q e =
+          let p = rw e at put in
+          λ l h. (inline-tables-held l h p.held long, rw (is, q, entered-in _ _ h.inline_table_places p))
 
-  pub inline-in : {next : InlineTableState} {found : Optional InlineTable} {table : InlineTable} {m : ℕ}
-      → answer ≡ Ok next → found ≡ table_of next → found ≡ Some table
-      → Entering table_row s.counts.inline_tables before (table.address ∷ table.size ∷ []) (Ok m) after → length after ≡ length before
-      → machine ≡ next → count ≡ m → refusal ≡ None
-      → Does (inline_tables_in before) (inline_tables_in after) (inline_table i) s r
+  pub inline-full : {refusal : Refusal} → EnteringFound s.counts.inline_tables before table (Err refusal) after → Inlines i s before after (Err refusal)
   unfolding inline_table
-  inline-in q n f put long me ce re = λ l h.
-      rw (he, te, ne, ce, re, ← is, q, ← n, f, me, entered-in _ _ h.inline_table_places put)
-      (record { stays = refl; call = refl; holds = inline-tables-held l h put.held long; says = refl })
-
-  pub inline-full : {next : InlineTableState} {found : Optional InlineTable} {table : InlineTable} {full : Refusal}
-      → answer ≡ Ok next → found ≡ table_of next → found ≡ Some table
-      → Entering table_row s.counts.inline_tables before (table.address ∷ table.size ∷ []) (Err full) after → length after ≡ length before
-      → machine ≡ next → count ≡ s.counts.inline_tables → refusal ≡ Some full
-      → Does (inline_tables_in before) (inline_tables_in after) (inline_table i) s r
-  unfolding inline_table
-  inline-full q n f put long me ce re = λ l h.
-      rw (he, te, ne, ce, re, full-refusal put, ← is, q, ← n, f, me, entered-full _ _ h.inline_table_places put)
-      (record { stays = refl; call = refl; holds = inline-tables-held l h put.held long; says = refl })
-
-  pub inline-refused : {reason : Refusal} → answer ≡ Err reason
-      → after ≡ before → count ≡ s.counts.inline_tables → refusal ≡ Some reason
-      → Does (inline_tables_in before) (inline_tables_in after) (inline_table i) s r
-  unfolding inline_table
-  inline-refused q ae ce re = λ l h. rw (he, te, ne, ce, re, ae, ← is, q) (record { stays = refl; call = refl; holds = h; says = refl })
+  inline-full {refusal} put = step (table_of next) refl as_row
+    where
+      step : (f : Optional InlineTable) → table_of next ≡ f → MatchOption f (table ≡ None) (λ t. table ≡ Some (t.address, t.size)) → Inlines i s before after (Err refusal)
+      step None q e =
+          let p = rw e at put in
+          let z : ◌≡◌ {A = ℕ} 0 1 = cc in
+          absurd (omega (arith, z))
+      step (Some t) q e =
+          let p = rw e at put in
+          λ l h. (inline-tables-held l h p.held long, rw (is, q, entered-full _ _ h.inline_table_places p, full-refusal p))

@@ -4,6 +4,8 @@ use Rattle.base.proofs.Prelude.{arith, eqb, T, eqb→eq, length, get_or, eq-eqb}
 use Rattle.classes.specs.declared.Class.{Class}
 use Rattle.classes.specs.Class.{class_no, is}
 use Rattle.classes.specs.declared.Class.TheVariants.{Illegal}
+use Rattle.classes.specs.declared.Cond.TheVariants.{Nv}
+use Rattle.classes.specs.Cond.{conds, cond_no}
 use Rattle.classes.proofs.Numbers.{same_number, class-below}
 use Rattle.encodings.specs.Diagram
 use Rattle.encodings.specs.Diagram.{bits, fits, fitting, first_or, unconditional}
@@ -79,22 +81,25 @@ by_condition f k =
     go false = refl
 
 -- 1110 and 1111; and the fourteen others
-two-conditions : (x y : ℕ) → sum 16 (λ (c : ℕ). one (not (is_conditional c)) * elim (eqb c 15) as (λ _. ℕ) [ true ↦ y | false ↦ x ]) ≡ x + y
-unfolding sum
+abbrev is_other : ℕ → Bool
+is_other c = is_conditional (get_or conds c Nv)
+
+two-conditions : (x y : ℕ) → sum 16 (λ (c : ℕ). one (not (is_other c)) * elim (eqb c 15) as (λ _. ℕ) [ true ↦ y | false ↦ x ]) ≡ x + y
+unfolding sum cond_no
 two-conditions x y = omega arith
 
-fourteen-conditions : (x y : ℕ) → sum 16 (λ (c : ℕ). one (is_conditional c) * elim (eqb c 15) as (λ _. ℕ) [ true ↦ y | false ↦ x ]) ≡ 14 * x
-unfolding sum
+fourteen-conditions : (x y : ℕ) → sum 16 (λ (c : ℕ). one (is_other c) * elim (eqb c 15) as (λ _. ℕ) [ true ↦ y | false ↦ x ]) ≡ 14 * x
+unfolding sum cond_no
 fourteen-conditions x y = omega arith
 
 unconditional-words : (k : Class) → unconditional_words k ≡ each 0 k + each 1 k
 unfolding unconditional_words
 unconditional-words k =
-    under_all (λ (c : ℕ). not (is_conditional c)) k ∙ by_condition (λ (c : ℕ). not (is_conditional c)) k ∙ two-conditions (each 0 k) (each 1 k)
+    under_all (λ (c : ℕ). not (is_other c)) k ∙ by_condition (λ (c : ℕ). not (is_other c)) k ∙ two-conditions (each 0 k) (each 1 k)
 
 conditional-words : (k : Class) → conditional_words k ≡ 14 * each 0 k
 unfolding conditional_words
-conditional-words k = under_all is_conditional k ∙ by_condition is_conditional k ∙ fourteen-conditions (each 0 k) (each 1 k)
+conditional-words k = under_all is_other k ∙ by_condition is_other k ∙ fourteen-conditions (each 0 k) (each 1 k)
 
 -- ---- the census
 

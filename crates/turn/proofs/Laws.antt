@@ -9,11 +9,12 @@ use Rattle.base.specs.declared.refusal.Refusal.TheVariants.{NoEpilogue}
 use Rattle.base.specs.Words.{word_from, first_word}
 use Rattle.context.specs.declared.State.{State}
 use Rattle.context.specs.declared.Handled.{Handled}
+use Rattle.context.specs.declared.Module.{Module}
 use Rattle.context.specs.declared.Then.{Then}
 use Rattle.context.specs.declared.Then.TheVariants.{On, Goes, Ends, Refuses}
 use Rattle.context.specs.Blocks.{handle_ins}
 use Rattle.context.specs.Context.{Given, Maps, call_row, label_row, pool_row, table_row, moving}
-use Rattle.context.specs.Lists.{Lists, AllHeld, maps_in, written, zeroed, given_by}
+use Rattle.context.specs.Lists.{Lists, AllHeld, maps_in, written, zeroed, given_to}
 use Rattle.context.specs.State.{read, progressed}
 use Rattle.context.specs.Turn.{Turned, turn, context_at, settled, closed, counts_of, no_maps, key_or0, arm_size}
 use Rattle.registers.specs.declared.Registers.{Registers}
@@ -26,7 +27,7 @@ use Rattle.walk.specs.declared.Options.{Options}
 use Rattle.walk.specs.declared.Walk.{Walk}
 use Rattle.walk.specs.IntoFunction.{into_function}
 use Rattle.outcome.specs.Outcome.{state_of, walk_in, with_counts, refused_walk, settles, is_refused}
-use Rattle.outcome.proofs.Laws.{same_lists, zeros-encode}
+use Rattle.lists.proofs.Laws.{same_lists, zeros-encode}
 use Rattle.handle_ins.specs.Handles.{context_in, Handles}
 use Rattle.turn.specs.Turning.{left, Looks, Turns}
 
@@ -53,22 +54,22 @@ settles-counts o w pool Goes h s = refl
 settles-counts o w pool (Ends end) h s = refl
 settles-counts o w pool (Refuses n r) h s = refl
 
-module _ (o : Options) (code starts : List ℕ) (w : Walk) (before : Lists) where
-  pub looks-settled : {after : Lists} {r : Handled} {x : Walk} {word : ℕ} → word_from code o.base w.progress.address ≡ Some word
-      → Handles (given_by o code starts before) r before after
-      (handle_ins (decode_of word w.progress.address) word arm_size (context_in (given_by o code starts before) w.registers (state_of w) before))
-      → x ≡ settles o w (key_or0 (first_key (map_in pool_row r.stepped.state.counts.pools after.pools))) r.stepped.then r.registers r.stepped.state
-      → Looks x before after (turn (given_by o code starts before) w (maps_in w.counts before))
+module _ (given : Module) (w : Walk) (before : Lists) where
+  pub looks-settled : {after : Lists} {r : Handled} {x : Walk} {word : ℕ} → word_from given.code.now given.options.base w.progress.address ≡ Some word
+      → Handles (given_to given before) r before after
+      (handle_ins (decode_of word w.progress.address) word arm_size (context_in (given_to given before) w.registers (state_of w) before))
+      → x ≡ settles given.options w (key_or0 (first_key (map_in pool_row r.stepped.state.counts.pools after.pools))) r.stepped.then r.registers r.stepped.state
+      → Looks x before after (turn (given_to given before) w (maps_in w.counts before))
   unfolding turn
   looks-settled {after} {r} e h is = rw is (record {
-    held = rw (settles-counts o w (key_or0 (first_key (map_in pool_row r.stepped.state.counts.pools after.pools))) r.stepped.then r.registers r.stepped.state) h.held;
+    held = rw (settles-counts given.options w (key_or0 (first_key (map_in pool_row r.stepped.state.counts.pools after.pools))) r.stepped.then r.registers r.stepped.state) h.held;
     places = h.places;
-    says = rw e (settles-left (given_by o code starts before) w (maps_in w.counts before) after r.stepped.then r.registers r.stepped.state
-        ∙ ap (settled (context_at (given_by o code starts before) w (maps_in w.counts before))) h.says);
+    says = rw e (settles-left (given_to given before) w (maps_in w.counts before) after r.stepped.then r.registers r.stepped.state
+        ∙ ap (settled (context_at (given_to given before) w (maps_in w.counts before))) h.says);
   })
 
-  pub looks-missing : {x : Walk} → word_from code o.base w.progress.address ≡ None → AllHeld w.counts before
-      → x ≡ refused_walk w w.counts NoEpilogue 0 0 → Looks x before before (turn (given_by o code starts before) w (maps_in w.counts before))
+  pub looks-missing : {x : Walk} → word_from given.code.now given.options.base w.progress.address ≡ None → AllHeld w.counts before
+      → x ≡ refused_walk w w.counts NoEpilogue 0 0 → Looks x before before (turn (given_to given before) w (maps_in w.counts before))
   unfolding turn
   looks-missing e h is = rw is (record { held = h; places = refl; says = rw e })
 

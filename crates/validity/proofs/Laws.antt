@@ -1,8 +1,7 @@
 -- The laws of the refusals 1 to 4: the tests of all pools, and what a step that passed them has shown.
 -- Assumes nothing.
-use Rattle.base.proofs.Prelude.{refl, ◌≡◌, false, true, Bool, List, [], ◌∷◌, ◌≤◌, ℕ, ◌+◌, ◌<◌, ◌%◌, arith, eqb, leb, length}
+use Rattle.base.proofs.Prelude.{refl, ◌≡◌, false, true, Bool, List, [], ◌∷◌, ◌≤◌, ℕ, ◌+◌, ◌%◌, arith, eqb, leb, length}
 use Rattle.base.proofs.Prelude.{leb-true, eqb-true}
-use lib.Dec.{lit<}
 use Rattle.std.specs.Prelude.{Result, Ok, Err, ◌&&◌}
 use Rattle.std.specs.List.{list_all}
 use Rattle.base.specs.declared.refusal.Refusal.{Refusal}
@@ -11,10 +10,11 @@ use Rattle.base.specs.Choice.{pick, both, either}
 use Rattle.context.specs.Context.{label_row, pool_row, table_row}
 use Rattle.context.specs.Lists.{Lists, AllHeld, maps_in}
 use Rattle.context.specs.Turn.{key_or0}
+use Rattle.lists.specs.Lists.{are_in_order}
 use Rattle.rows.specs.Map.{key_of, stands-in, last_key, Held, in_order}
 use Rattle.rows.proofs.MapLaws.{in-order-held}
-use Rattle.base.proofs.ChoiceLaws.{both_first, both-second}
-use Rattle.validity.specs.Validity.{low, high, is_window, is_in_code, are_starts, are_in_order, is_whole, are_whole, are_held, are_pools, are_lists, step_check}
+use Rattle.base.proofs.ChoiceLaws.{both_true}
+use Rattle.validity.specs.Validity.{low, high, is_window, is_in_code, are_starts, is_whole, are_whole, are_held, are_pools, are_lists, step_check}
 use Rattle.walk.specs.declared.Counts.{Counts}
 use Rattle.walk.specs.declared.Options.{Options}
 use Rattle.walk.specs.declared.Walk.{Walk}
@@ -47,15 +47,16 @@ module _ (n : Counts) (l : Lists) where
   pub order-held : are_in_order n l ≡ true → AllHeld n l
   unfolding are_in_order
   order-held e =
-      let a = both-second (in_order label_row n.labels l.labels) _ e in
-      let b = both-second (in_order pool_row n.pools l.pools) _ a in
-      let c = both-second (in_order table_row n.jump_tables l.jump_tables) _ b in
+      let a = both_true (in_order label_row n.labels l.labels) _ e in
+      let b = both_true (in_order pool_row n.pools l.pools) _ a.1 in
+      let c = both_true (in_order table_row n.jump_tables l.jump_tables) _ b.1 in
+      let d = both_true (in_order table_row n.inline_tables l.inline_tables) _ c.1 in
       record {
-        labels = in-order-held (omega arith) (both_first _ _ e);
-        pools = in-order-held (omega arith) (both_first _ _ a);
-        jump_tables = in-order-held (omega arith) (both_first _ _ b);
-        inline_tables = in-order-held (omega arith) (both_first _ _ c);
-        calls = in-order-held (omega arith) (both-second (in_order table_row n.inline_tables l.inline_tables) _ c);
+        labels = in-order-held (omega arith) a.0;
+        pools = in-order-held (omega arith) b.0;
+        jump_tables = in-order-held (omega arith) c.0;
+        inline_tables = in-order-held (omega arith) d.0;
+        calls = in-order-held (omega arith) d.1;
       }
 
 -- ---- a step that passed
@@ -71,8 +72,8 @@ pub record Passed (o : Options) (code starts : List ℕ) (w : Walk) (l : Lists) 
   pub last : w.progress.last_pool_address ≡ key_or0 (last_key (maps_in w.counts l).pools)
   pub held : are_held w.registers.sources (maps_in w.counts l).pools ≡ true
 
--- a test before 0, and what comes after it
-passes : (b : Bool) (x : Result (Unit {0}) Refusal) (r : Refusal) → pick b x (Err r) ≡ Ok tt → (b ≡ true) × (x ≡ Ok tt)
+-- a test, and what comes after it
+pub passes : (b : Bool) (x : Result (Unit {0}) Refusal) (r : Refusal) → pick b x (Err r) ≡ Ok tt → (b ≡ true) × (x ≡ Ok tt)
 passes true x r e = (refl, e)
 passes false x r e = cc
 
@@ -84,21 +85,23 @@ module _ (o : Options) (code starts : List ℕ) (w : Walk) (l : Lists) where
       let b = passes _ _ BadStart a.1 in
       let c = passes (eqb (w.progress.start % 4) 0) _ UnalignedStart b.1 in
       let d = passes _ (Ok tt) BadLists c.1 in
-      let lists = both-second (are_starts starts) _ d.0 in
-      let pools = both-second (are_in_order w.counts l) _ lists in
-      let held = both-second (are_whole o.base (length code) (maps_in w.counts l).pools) _ pools in
+      let f = both_true (is_in_code o.base (length code) w.progress.start) _ b.0 in
+      let g = both_true (are_starts starts) _ d.0 in
+      let h = both_true (are_in_order w.counts l) _ g.1 in
+      let i = both_true (are_whole o.base (length code) (maps_in w.counts l).pools) _ h.1 in
+      let j = both_true (eqb w.progress.last_pool_address (key_or0 (last_key (maps_in w.counts l).pools))) _ i.1 in
       record {
         window = a.0;
-        start = both_first _ _ b.0;
-        above = leb-true _ _ (both-second (is_in_code o.base (length code) w.progress.start) _ b.0);
-        aligned = eqb-true _ _ c.0;
-        ascends = in-order-held (omega arith) (both_first _ _ d.0);
-        lists = order-held w.counts l (both_first _ _ lists);
-        whole = both_first _ _ pools;
-        last = eqb-true _ _ (both_first _ _ held);
-        held = both-second (eqb w.progress.last_pool_address (key_or0 (last_key (maps_in w.counts l).pools))) _ held;
+        start = f.0;
+        above = leb-true o.base w.progress.address f.1;
+        aligned = eqb-true (w.progress.start % 4) 0 c.0;
+        ascends = in-order-held (omega arith) g.0;
+        lists = order-held w.counts l h.0;
+        whole = i.0;
+        last = eqb-true _ _ j.0;
+        held = j.1;
       }
 
 pub window-fits : (o : Options) (length : ℕ) → is_window o length ≡ true → o.base + length ≤ high
 unfolding is_window
-window-fits o length e = leb-true _ _ (both_first (leb (o.base + length) high) _ (both-second (leb low o.base) _ e))
+window-fits o length e = leb-true _ _ (both_true (leb (o.base + length) high) _ (both_true (leb low o.base) _ e).1).0

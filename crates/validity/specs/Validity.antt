@@ -4,11 +4,10 @@ use Rattle.std.specs.Prelude.{Result, Ok, Err, Bool, true, List, [], ◌∷◌, 
 use Rattle.base.specs.Choice.{pick, both, either}
 use Rattle.base.specs.declared.refusal.Refusal.{Refusal}
 use Rattle.base.specs.declared.refusal.Refusal.TheVariants.{BadWindow, BadStart, UnalignedStart, BadLists}
-use Rattle.context.specs.Context.{label_row, pool_row, table_row, call_row}
 use Rattle.context.specs.Lists.{Lists, maps_in}
 use Rattle.context.specs.Turn.{key_or0}
+use Rattle.lists.specs.Lists.{are_in_order}
 use Rattle.rows.specs.Map.{key_of, stands-in, last_key, in_order}
-use Rattle.walk.specs.declared.Counts.{Counts}
 use Rattle.walk.specs.declared.Options.{Options}
 use Rattle.walk.specs.declared.Walk.{Walk}
 
@@ -40,14 +39,6 @@ begin_check o start length starts =
     (pick (eqb (start % 4) 0)
     (pick (are_starts starts) (Ok tt) (Err BadLists))
     (Err UnalignedStart)) (Err BadStart)) (Err BadWindow)
-
--- 4 at a step: each list holds a map of its count, and zeros after it
-unfoldable pub are_in_order : Counts → Lists → Bool
-are_in_order n l =
-    both (in_order label_row n.labels l.labels)
-    (both (in_order pool_row n.pools l.pools)
-    (both (in_order table_row n.jump_tables l.jump_tables)
-    (both (in_order table_row n.inline_tables l.inline_tables) (in_order call_row n.calls l.calls))))
 
 -- a pool lies wholly in the code, and so does each
 unfoldable pub is_whole : ℕ → ℕ → ℕ → Bool

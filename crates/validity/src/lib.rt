@@ -2,17 +2,16 @@
 #![tactic(auto)]
 
 ghost use Rattle.std.specs.Prelude.{◌≡◌, length};
-ghost use Rattle.context.specs.Context.{pool_row};
-ghost use Rattle.context.specs.Lists.{lists};
 ghost use Rattle.context.specs.Turn.{key_or0};
-ghost use Rattle.rows.specs.Map.{Held, map_in, last_key};
-ghost use Rattle.validity.specs.Validity.{is_window, is_in_code, are_starts, begin_check, are_in_order, is_whole, are_whole, are_held, are_pools, are_lists, step_check};
+ghost use Rattle.lists.specs.Lists.{lists_of};
+ghost use Rattle.rows.specs.Map.{last_key};
+ghost use Rattle.validity.specs.Validity.{is_window, is_in_code, are_starts, begin_check, is_whole, are_whole, are_held, are_pools, are_lists, step_check};
 
 use base::refusal::Refusal;
-use context::{CALL_ROW, LABEL_ROW, POOL_ROW, TABLE_ROW};
-use rows::order::in_order;
-use rows::search::{contains, last, rows};
-use walk::{Counts, Options, Walk};
+use calls::CallList;
+use context::{Pools, Starts};
+use lists::Lists;
+use walk::{Options, Walk};
 
 // The addresses of a program.
 const LOW: u32 = 0x01FF_8000;
@@ -40,7 +39,7 @@ fn is_in_code(base: u32, length: usize, start: u32) -> bool
 fn are_starts(starts: &[u32]) -> bool
     ensures { result ≡ are_starts starts.now }
 {
-    in_order(starts, 1, starts.len())
+    Starts::in_order(starts, starts.len())
 }
 
 #[tactic(auto, using(std::proofs::lemmas::Bool::Decides::nat_tests), unfolding(crate::specs::Validity::begin_check))]
@@ -62,24 +61,6 @@ pub fn begin(o: Options, start: u32, length: usize, starts: &[u32]) -> Result<()
     Ok(())
 }
 
-#[tactic(auto, unfolding(crate::specs::Validity::are_in_order))]
-fn are_in_order(
-    n: Counts,
-    labels: &[u32],
-    pools: &[u32],
-    jump_tables: &[u32],
-    inline_tables: &[u32],
-    calls: &[u32],
-) -> bool
-    ensures { result ≡ are_in_order n (lists labels.now pools.now jump_tables.now inline_tables.now calls.now) }
-{
-    in_order(labels, LABEL_ROW, n.labels)
-        && in_order(pools, POOL_ROW, n.pools)
-        && in_order(jump_tables, TABLE_ROW, n.jump_tables)
-        && in_order(inline_tables, TABLE_ROW, n.inline_tables)
-        && in_order(calls, CALL_ROW, n.calls)
-}
-
 #[tactic(auto, using(std::proofs::lemmas::Bool::Decides::nat_tests), unfolding(crate::specs::Validity::is_whole))]
 fn is_whole(base: u32, length: usize, pool: u32) -> bool
     ensures { result ≡ is_whole base length pool }
@@ -87,28 +68,26 @@ fn is_whole(base: u32, length: usize, pool: u32) -> bool
     base <= pool && (pool - base) as usize + 4 <= length
 }
 
-fn are_whole(base: u32, length: usize, pools: &[u32], count: usize) -> bool
-    requires { Held pool_row count pools.now }
-    ensures { result ≡ are_whole base length (map_in pool_row count pools.now) }
+fn are_whole(base: u32, length: usize, pools: &Pools) -> bool
+    ensures { result ≡ are_whole base length pools.now.rows.now }
 {
-    rows::<POOL_ROW>(pools, count)
+    pools
+        .rows
         .iter()
         .all(|pool| is_whole(base, length, pool[0]))
 }
 
-fn are_held(sources: [u32; 16], pools: &[u32], count: usize) -> bool
-    requires { Held pool_row count pools.now }
-    ensures { result ≡ are_held sources (map_in pool_row count pools.now) }
+fn are_held(sources: [u32; 16], pools: &Pools) -> bool
+    ensures { result ≡ are_held sources pools.now.rows.now }
 {
-    sources.iter().all(|&source| source == 0 || contains(pools, POOL_ROW, count, source))
+    sources.iter().all(|&at| at == 0 || pools.contains(at))
 }
 
 // The last pool, 0 where there is none.
-fn last_pool(pools: &[u32], count: usize) -> u32
-    requires { Held pool_row count pools.now }
-    ensures { result ≡ key_or0 (last_key (map_in pool_row count pools.now)) }
+fn last_pool(pools: &Pools) -> u32
+    ensures { result ≡ key_or0 (last_key pools.now.rows.now) }
 {
-    last(pools, POOL_ROW, count).unwrap_or(0)
+    pools.last().unwrap_or(0)
 }
 
 #[tactic(auto, unfolding(crate::specs::Validity::are_pools))]
@@ -117,50 +96,41 @@ fn are_pools(
     length: usize,
     last_pool_address: u32,
     sources: [u32; 16],
-    pools: &[u32],
-    count: usize,
+    pools: &Pools,
 ) -> bool
-    requires { Held pool_row count pools.now }
-    ensures { result ≡ are_pools base length last_pool_address sources (map_in pool_row count pools.now) }
+    ensures { result ≡ are_pools base length last_pool_address sources pools.now.rows.now }
 {
-    are_whole(base, length, pools, count)
-        && last_pool_address == last_pool(pools, count)
-        && are_held(sources, pools, count)
+    are_whole(base, length, pools)
+        && last_pool_address == last_pool(pools)
+        && are_held(sources, pools)
 }
 
 #[tactic(auto, unfolding(crate::specs::Validity::are_lists))]
-fn are_lists(
-    o: Options,
-    length: usize,
-    w: Walk,
-    labels: &[u32],
-    pools: &[u32],
-    jump_tables: &[u32],
-    inline_tables: &[u32],
-    calls: &[u32],
-) -> bool
-    ensures { result ≡ are_lists o length w (lists labels.now pools.now jump_tables.now inline_tables.now calls.now) }
+fn are_lists<C: CallList>(o: Options, length: usize, w: Walk, lists: &Lists<C>) -> bool
+    ensures { result ≡ are_lists o length w (lists_of C.numbers lists.now) }
 {
     let n = w.counts;
     let last_pool_address = w.progress.last_pool_address;
     let sources = w.registers.sources;
-    are_in_order(n, labels, pools, jump_tables, inline_tables, calls)
-        && are_pools(o.base, length, last_pool_address, sources, pools, n.pools)
+    lists.in_order(n)
+        && are_pools(
+            o.base,
+            length,
+            last_pool_address,
+            sources,
+            &Pools::new(lists.pools, n.pools),
+        )
 }
 
 #[tactic(auto, using(std::proofs::lemmas::Bool::Decides::nat_tests), unfolding(crate::specs::Validity::step_check))]
-pub fn step(
+pub fn step<C: CallList>(
     o: Options,
     length: usize,
     starts: &[u32],
     w: Walk,
-    labels: &[u32],
-    pools: &[u32],
-    jump_tables: &[u32],
-    inline_tables: &[u32],
-    calls: &[u32],
+    lists: &Lists<C>,
 ) -> Result<(), Refusal>
-    ensures { result ≡ step_check o length starts.now w (lists labels.now pools.now jump_tables.now inline_tables.now calls.now) }
+    ensures { result ≡ step_check o length starts.now w (lists_of C.numbers lists.now) }
 {
     let p = w.progress;
     if !is_window(o, length) {
@@ -172,18 +142,7 @@ pub fn step(
     if p.start % 4 != 0 {
         return Err(Refusal::UnalignedStart);
     }
-    if !are_starts(starts)
-        || !are_lists(
-            o,
-            length,
-            w,
-            labels,
-            pools,
-            jump_tables,
-            inline_tables,
-            calls,
-        )
-    {
+    if !are_starts(starts) || !are_lists(o, length, w, lists) {
         return Err(Refusal::BadLists);
     }
     Ok(())

@@ -6,34 +6,40 @@ ghost use Rattle.rows.specs.Map.{Held, map_in};
 ghost use Rattle.context.specs.Context.{pool_row};
 ghost use Rattle.context.specs.Blocks.{illegal_code, marked, mark_pool, pool_load, check_defined};
 ghost use Rattle.context.specs.State.{Does, same, pools_in, code_in, options_in, registers_in, loaded_in};
+ghost use Rattle.values.specs.Usage.{usage_no};
 
 use analysis::illegal_code::IllegalCodeState;
 use arm::Ins;
 use base::refusal::Refusal;
 use base::word::word_from;
-use context::{Load, Loaded, POOL_ROW, State, Stepped, Then, assign};
+use context::{Load, Loaded, Module, Pools, State, Stepped, Then, assign};
 use registers::Registers;
-use rows::insert::enter;
-use rows::search::{field, index_of};
 use walk::{Options, checking};
 
-// PoolConstantUsage
-const OTHER: u32 = 0;
+// How the function uses a pool word, with its number in a row of the pools.
+#[derive(Clone, Copy)]
+enum PoolConstantUsage {
+    Other = 0,
+    Call = 1,
+}
 
-const CALL: u32 = 1;
+impl From<PoolConstantUsage> for u32 {
+    ghost from_gives = { λ usage n. n ≡ usage_no usage };
+
+    fn from(usage: PoolConstantUsage) -> u32 {
+        usage as u32
+    }
+}
 
 pub fn illegal_code(s: State, ins: Ins) -> Stepped
     ensures { Does same same (illegal_code ins) s result }
 {
-    let m = s.machines;
-    let machine = m.illegal_code;
-    let next = machine.handle(ins);
+    let next = s.machines.illegal_code.handle(ins);
     let t = assign::illegal_code_to(s, next);
-    match next {
-        IllegalCodeState::Start => assign::on(t),
-        IllegalCodeState::ShiftedRegisterValue { reg: _ } => assign::on(t),
-        IllegalCodeState::Illegal { reason } => assign::refuse(t, reason),
+    if let IllegalCodeState::Illegal { reason } = next {
+        return assign::refuse(t, reason);
     }
+    assign::on(t)
 }
 
 // The pool at that address is used by a call.
@@ -41,33 +47,32 @@ fn mark(pools: &mut [u32], count: usize, address: u32)
     requires { Held pool_row count pools.old }
     ensures { Held pool_row count pools.new × (map_in pool_row count pools.new ≡ marked address (map_in pool_row count pools.old)) }
 {
-    if let Some(k) = index_of(pools, POOL_ROW, count, address) {
-        let value = field(pools, POOL_ROW, count, k, 1);
+    let held = Pools::new(pools, count);
+    if let Some(k) = held.index_of(address) {
+        let value = held.rows[k][1];
+        let row = [address, value, PoolConstantUsage::Call.into()];
         // It is held, so it has its place.
-        let _ = enter(pools, POOL_ROW, count, [address, value, CALL, 0]);
+        let _ = Pools::enter(pools, count, row);
     }
 }
 
 // An unconditional Bx marks the pool that its register came from.
-pub fn mark_pool(s: State, held: Registers, ins: Ins, pools: &mut [u32])
+pub fn mark_pool(s: State, registers: &Registers, ins: Ins, pools: &mut [u32])
     requires { Held pool_row s.counts.pools pools.old }
-    ensures { Does (λ l. registers_in held (pools_in pools.old l)) (λ l. registers_in held (pools_in pools.new l)) (mark_pool ins) s (record { then = Then.On; state = s }) }
+    ensures { Does (λ l. registers_in registers.now (pools_in pools.old l)) (λ l. registers_in registers.now (pools_in pools.new l)) (mark_pool ins) s (record { then = Then.On; state = s }) }
 {
-    let n = s.counts;
     if !predicates::is_bx(ins) {
         return;
     }
-    let source = held.source_of(ins.rm);
-    if source == 0 {
-        return;
+    if let Some(source) = registers.source_of(ins.rm) {
+        mark(pools, s.counts.pools, source);
     }
-    mark(pools, n.pools, source);
 }
 
 // The word goes into its register behind the blocks: none of those that follow asks for it.
-pub fn pool_load(o: Options, s: State, ins: Ins, code: &[u8], pools: &mut [u32]) -> Loaded
+pub fn pool_load(m: Module, s: State, ins: Ins, pools: &mut [u32]) -> Loaded
     requires { Held pool_row s.counts.pools pools.old }
-    ensures { Does (λ l. code_in code.now (options_in o (pools_in pools.old l))) (λ l. loaded_in result.load (code_in code.now (options_in o (pools_in pools.new l)))) (pool_load ins) s result.stepped }
+    ensures { Does (λ l. code_in m.entry.code.now (options_in m.entry.options (pools_in pools.old l))) (λ l. loaded_in result.load (code_in m.entry.code.now (options_in m.entry.options (pools_in pools.new l)))) (pool_load ins) s result.stepped }
 {
     let n = s.counts;
     let p = s.progress;
@@ -78,13 +83,14 @@ pub fn pool_load(o: Options, s: State, ins: Ins, code: &[u8], pools: &mut [u32])
         };
     }
     let address = predicates::pool_address(p.address, ins);
-    let Some(value) = word_from(code, o.base, address) else {
+    let Some(value) = word_from(m.code, m.options.base, address) else {
         return Loaded {
             stepped: assign::refuse(s, Refusal::PoolOutside),
             load: None,
         };
     };
-    match enter(pools, POOL_ROW, n.pools, [address, value, OTHER, 0]) {
+    let row = [address, value, PoolConstantUsage::Other.into()];
+    match Pools::enter(pools, n.pools, row) {
         Ok(count) => Loaded {
             stepped: assign::on(assign::pool_to(assign::count_pools(s, count), address)),
             load: Some(Load {
@@ -104,8 +110,7 @@ pub fn check_defined(o: Options, s: State, ins: Ins, returns: bool) -> Stepped
     ensures { Does (options_in o) (options_in o) (check_defined ins returns) s result }
 {
     let p = s.progress;
-    let register = checking::undefined_register(o.check, p.defined_registers, ins);
-    if register < 16 {
+    if let Some(register) = checking::undefined_register(o.check, p.defined_registers, ins) {
         return Stepped {
             then: Then::Refuses {
                 refusal: Refusal::UndefinedRegister,

@@ -1,5 +1,6 @@
 // check_defs_uses: registers that an instruction reads must have been defined.
 ghost use Rattle.std.specs.Prelude.{◌≡◌};
+ghost use Rattle.registers.specs.Registers.{register_of};
 ghost use Rattle.walk.specs.Checking.{is_checked, defined_before, undefined_register, defined_by, defined_after};
 
 use arm::Ins;
@@ -23,15 +24,15 @@ fn defined_before(defined: u16, ins: Ins) -> u16
     }
 }
 
-// The lowest register that is read and not defined, or 16. A store on the stack is not looked at.
+// The lowest register that is read and not defined. A store on the stack is not looked at.
 #[tactic(auto, unfolding(crate::specs::Checking::undefined_register))]
-pub fn undefined_register(check: bool, defined: u16, ins: Ins) -> u8
-    ensures { result ≡ undefined_register check defined ins }
+pub fn undefined_register(check: bool, defined: u16, ins: Ins) -> Option<u8>
+    ensures { result ≡ register_of (undefined_register check defined ins) }
 {
     if is_checked(check, ins) && !predicates::is_stack_store(ins) {
         registers::lowest_missing(ins.uses, defined_before(defined, ins))
     } else {
-        16
+        None
     }
 }
 

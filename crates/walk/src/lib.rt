@@ -55,7 +55,7 @@ pub struct Counts {
     pub calls: usize,
 }
 
-#[derive(Clone, Copy, PartialEq, Eq)]
+#[derive(Clone, Copy, PartialEq, Eq, Default)]
 pub struct Record {
     pub start: u32,
     pub end: u32,
@@ -63,7 +63,8 @@ pub struct Record {
     pub last_instruction_end: u32,
 }
 
-// What a call answers: a walk that goes on has neither a record nor a refusal, so there are three. `register` is the undefined one at `UndefinedRegister`, and 0 elsewhere.
+// What a call answers: a walk that goes on has neither a record nor a refusal, so there are three. `register` is the undefined one at
+// `UndefinedRegister`, and 0 elsewhere.
 #[derive(Clone, Copy, PartialEq, Eq)]
 pub enum Answer {
     Going,

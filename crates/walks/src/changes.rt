@@ -2,42 +2,32 @@
 ghost use Rattle.std.specs.Prelude.{◌≤◌};
 
 use crate::listing;
-use crate::lists::Lists;
-use crate::request::{TURN_BYTES, number};
+use crate::request::{Request, TURN_BYTES, number};
+use lists::Lists;
 use std::io::{self, Stdout};
 use walk::Walk;
 
 // The part of the state that gets a value; 0 is none.
-#[derive(Clone, Copy)]
+#[derive(Clone, Copy, Default)]
 pub struct Part {
     pub part: u32,
     pub value: u32,
 }
 
 // The place of a list that gets a value; list 0 is none.
-#[derive(Clone, Copy)]
+#[derive(Clone, Copy, Default)]
 pub struct Place {
     pub list: u32,
     pub at: u32,
     pub value: u32,
 }
 
-#[derive(Clone, Copy)]
+#[derive(Clone, Copy, Default)]
 pub struct Turn {
     pub is_finish: bool,
     pub parts: [Part; 2],
     pub places: [Place; 2],
 }
-
-const NO_TURN: Turn = Turn {
-    is_finish: false,
-    parts: [Part { part: 0, value: 0 }; 2],
-    places: [Place {
-        list: 0,
-        at: 0,
-        value: 0,
-    }; 2],
-};
 
 fn part_at(body: &[u8], at: usize) -> Part
     requires { at ≤ 0x10_0000 }
@@ -59,13 +49,11 @@ fn place_at(body: &[u8], at: usize) -> Place
 }
 
 // After the planned turns nothing comes before a step.
-pub fn turn_at(body: &[u8], script: usize, turns: usize, turn: usize) -> Turn
-    requires { (script ≤ 0x1000) × (turns ≤ 64) }
-{
-    if turns <= turn {
-        return NO_TURN;
+pub fn turn_at(body: &[u8], r: Request, turn: usize) -> Turn {
+    if r.turns <= turn {
+        return Turn::default();
     }
-    let at = script + TURN_BYTES * turn;
+    let at = r.script + TURN_BYTES * turn;
     Turn {
         is_finish: number(body, at) == 1,
         parts: [part_at(body, at + 4), part_at(body, at + 12)],
@@ -79,7 +67,7 @@ fn set(list: &mut [u32], at: u32, value: u32) {
     }
 }
 
-pub fn set_places(turn: Turn, lists: &mut Lists) {
+pub fn set_places(turn: Turn, lists: &mut Lists<&mut [u32]>) {
     for Place { list, at, value } in turn.places {
         match list {
             1 => set(lists.labels, at, value),

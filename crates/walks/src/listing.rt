@@ -1,9 +1,9 @@
 // The lines that the program writes.
 ghost use Rattle.std.specs.Prelude.{◌<◌};
 
-use crate::lists::Lists;
 use base::refusal::Refusal;
 use context::{CALL_ROW, LABEL_ROW, POOL_ROW, TABLE_ROW};
+use lists::Lists;
 use std::io::{self, Stdout, Write};
 use stepper::Answered;
 use walk::{Answer, Counts};
@@ -45,7 +45,7 @@ fn put_calls(output: &mut Stdout, calls: &[u32], count: usize) -> io::Result<()>
     Ok(())
 }
 
-// The first place after the rows that does not hold zero: a walk leaves none.
+// The first place after the rows that does not hold zero: a walk leaves none. One function for every width; no `Rows`, since nothing has checked them.
 fn put_rest(
     output: &mut Stdout,
     list: u32,
@@ -56,15 +56,18 @@ fn put_rest(
     requires { 0 < stride }
 {
     let end = stride * count.min(rows.len() / stride);
-    for (i, value) in rows.iter().enumerate().skip(end) {
-        if *value != 0 {
-            return writeln!(output, "place {list:08x} {i:08x} {value:08x}");
-        }
+    let left = rows
+        .iter()
+        .enumerate()
+        .skip(end)
+        .find(|(_, value)| **value != 0);
+    if let Some((i, value)) = left {
+        writeln!(output, "place {list:08x} {i:08x} {value:08x}")?;
     }
     Ok(())
 }
 
-fn put_lists(output: &mut Stdout, n: Counts, lists: &Lists) -> io::Result<()> {
+fn put_lists(output: &mut Stdout, n: Counts, lists: &Lists<&mut [u32]>) -> io::Result<()> {
     put_labels(output, lists.labels, n.labels)?;
     put_pools(output, lists.pools, n.pools)?;
     put_tables(output, "jump", lists.jump_tables, n.jump_tables)?;
@@ -109,7 +112,7 @@ pub fn put_begin(
     output: &mut Stdout,
     is_full: bool,
     begun: Answered,
-    lists: &Lists,
+    lists: &Lists<&mut [u32]>,
 ) -> io::Result<()> {
     if begun.answer == Answer::Going {
         return Ok(());
@@ -125,7 +128,7 @@ pub fn put_step(
     said: Answer,
     before: u32,
     next: Answered,
-    lists: &Lists,
+    lists: &Lists<&mut [u32]>,
 ) -> io::Result<()> {
     let answer = next.answer;
     if said != Answer::Going && said == answer {

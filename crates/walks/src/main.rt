@@ -13,11 +13,9 @@
 
 mod changes;
 mod listing;
-mod lists;
 mod request;
 
-ghost use Rattle.std.specs.Prelude.{◌≤◌, ◌<◌};
-
+use context::Module;
 use lists::Lists;
 use request::Request;
 use std::io::{self, Stdin, Stdout, Write};
@@ -29,29 +27,14 @@ const TURNS: usize = 0x1_0100;
 
 const MOST_REQUESTS: usize = 100_000_000;
 
-// What a walk is over.
-#[derive(Clone, Copy)]
-struct Module<'a> {
-    request: Request,
-    code: &'a [u8],
-    starts: &'a [u32],
-}
-
 // A begin, written where it is refused.
-fn begin(output: &mut Stdout, m: Module, lists: &mut Lists) -> io::Result<Walk> {
-    let r = m.request;
-    let begun = stepper::begin(
-        r.options,
-        r.start,
-        m.code,
-        m.starts,
-        lists.labels,
-        lists.pools,
-        lists.jump_tables,
-        lists.inline_tables,
-        lists.calls,
-        request::SOME_COUNTS,
-    );
+fn begin(
+    output: &mut Stdout,
+    r: Request,
+    m: Module,
+    lists: &mut Lists<&mut [u32]>,
+) -> io::Result<Walk> {
+    let begun = stepper::begin(m, r.start, lists, request::SOME_COUNTS);
     listing::put_begin(output, r.is_full, begun, lists)?;
     Ok(begun.walk)
 }
@@ -59,24 +42,14 @@ fn begin(output: &mut Stdout, m: Module, lists: &mut Lists) -> io::Result<Walk> 
 // A step, written unless it repeats the end that `said` is.
 fn take_step(
     output: &mut Stdout,
+    is_full: bool,
     m: Module,
     said: Answer,
     w: Walk,
-    lists: &mut Lists,
+    lists: &mut Lists<&mut [u32]>,
 ) -> io::Result<Answered> {
-    let r = m.request;
-    let next = stepper::step(
-        r.options,
-        w,
-        m.code,
-        m.starts,
-        lists.labels,
-        lists.pools,
-        lists.jump_tables,
-        lists.inline_tables,
-        lists.calls,
-    );
-    listing::put_step(output, r.is_full, said, w.progress.address, next, lists)?;
+    let next = stepper::step(m, w, lists);
+    listing::put_step(output, is_full, said, w.progress.address, next, lists)?;
     Ok(next)
 }
 
@@ -84,20 +57,18 @@ fn take_step(
 fn take_turns(
     output: &mut Stdout,
     body: &[u8],
+    r: Request,
     m: Module,
     begun: Walk,
-    lists: &mut Lists,
-) -> io::Result<(Walk, Answer)>
-    requires { (m.request.script ≤ 0x1000) × (m.request.turns ≤ 64) }
-{
-    let r = m.request;
+    lists: &mut Lists<&mut [u32]>,
+) -> io::Result<(Walk, Answer)> {
     let mut w = begun;
     let mut said = Answer::Going;
     for turn in 0..TURNS {
-        let planned = changes::turn_at(body, r.script, r.turns, turn);
+        let planned = changes::turn_at(body, r, turn);
         changes::set_places(planned, lists);
         w = changes::prepared(output, w, planned)?;
-        let next = take_step(output, m, said, w, lists)?;
+        let next = take_step(output, r.is_full, m, said, w, lists)?;
         w = next.walk;
         if turn < r.turns {
             continue;
@@ -110,11 +81,15 @@ fn take_turns(
     Ok((w, said))
 }
 
-fn run(output: &mut Stdout, body: &[u8], m: Module, lists: &mut Lists) -> io::Result<()>
-    requires { (m.request.script ≤ 0x1000) × (m.request.turns ≤ 64) }
-{
-    let begun = begin(output, m, lists)?;
-    let (w, said) = take_turns(output, body, m, begun, lists)?;
+fn run(
+    output: &mut Stdout,
+    body: &[u8],
+    r: Request,
+    m: Module,
+    lists: &mut Lists<&mut [u32]>,
+) -> io::Result<()> {
+    let begun = begin(output, r, m, lists)?;
+    let (w, said) = take_turns(output, body, r, m, begun, lists)?;
     listing::put_end(output, stepper::finish(w), said)
 }
 
@@ -125,10 +100,8 @@ fn lent(list: &mut [u32], length: usize) -> &mut [u32] {
 }
 
 // The lists hold anything at first.
-fn lend(output: &mut Stdout, body: &[u8], m: Module) -> io::Result<()>
-    requires { (m.request.script ≤ 0x1000) × (m.request.turns ≤ 64) }
-{
-    let lengths = m.request.lengths;
+fn lend(output: &mut Stdout, body: &[u8], r: Request, m: Module) -> io::Result<()> {
+    let lengths = r.lengths;
     let mut labels = [7u32; 1024];
     let mut pools = [7u32; 3072];
     let mut jump_tables = [7u32; 128];
@@ -141,23 +114,18 @@ fn lend(output: &mut Stdout, body: &[u8], m: Module) -> io::Result<()>
         inline_tables: lent(&mut inline_tables, lengths.inline_tables),
         calls: lent(&mut calls, lengths.calls),
     };
-    run(output, body, m, &mut lists)
+    run(output, body, r, m, &mut lists)
 }
 
 fn serve(output: &mut Stdout, body: &[u8]) -> io::Result<()> {
-    let request = request::read(body);
+    let r = request::read(body);
     let starts = request::read_starts(body);
-    let code = &body[request.code.min(body.len())..];
-    let starts = &starts[..request.starts];
-    lend(
-        output,
-        body,
-        Module {
-            request,
-            code,
-            starts,
-        },
-    )
+    let m = Module {
+        options: r.options,
+        code: &body[r.code.min(body.len())..],
+        starts: &starts[..r.starts],
+    };
+    lend(output, body, r, m)
 }
 
 fn serve_into(

@@ -22,6 +22,7 @@ pub struct Request {
     pub turns: usize,
     pub script: usize,
     pub code: usize,
+    ghost within: { (starts ≤ 64) × (script ≤ 0x1000) × (turns ≤ 64) },
 }
 
 // What lies past the end reads as 0, here and below.
@@ -79,7 +80,6 @@ fn lengths_at(body: &[u8], at: usize) -> Counts
 // Versions 1 and 2, as the Rust reads them: no turns, lists as long as there are.
 fn plain(body: &[u8], starts: usize, code: usize) -> Request
     requires { (starts ≤ 64) × (code ≤ 0x1000) }
-    ensures { (result.starts ≤ 64) × (result.script ≤ 0x1000) × (result.turns ≤ 64) }
 {
     Request {
         is_full: false,
@@ -93,9 +93,7 @@ fn plain(body: &[u8], starts: usize, code: usize) -> Request
     }
 }
 
-pub fn read(body: &[u8]) -> Request
-    ensures { (result.starts ≤ 64) × (result.script ≤ 0x1000) × (result.turns ≤ 64) }
-{
+pub fn read(body: &[u8]) -> Request {
     let version = byte(body, 0);
     if version < 2 {
         return plain(body, 0, 22);

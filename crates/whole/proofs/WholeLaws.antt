@@ -1,22 +1,22 @@
 -- The whole walk by its turns: one more than the code has bytes, from no entries.
 -- Assumes nothing.
-use Rattle.base.proofs.Prelude.{◌∙◌, sym, refl, ◌≡◌, ap, subst⁻¹, true, false, Bool, List, ◌≤◌, ℕ, ◌+◌, suc, arith, eqb, length, eqb-true}
+use Rattle.base.proofs.Prelude.{◌∙◌, sym, refl, ◌≡◌, ap, subst⁻¹, true, false, List, ℕ, suc, arith, length}
 use Rattle.std.specs.Prelude.{Result, Ok, Err}
 use Rattle.base.specs.declared.refusal.Refusal.{Refusal}
-use Rattle.base.specs.Choice.{pick}
-use Rattle.context.specs.Lists.{Lists, AllHeld, written, zeroed, given_by}
+use Rattle.context.specs.declared.Module.{Module}
+use Rattle.context.specs.Lists.{Lists, AllHeld, Sound, written, zeroed, given_by, given_to}
 use Rattle.context.specs.Turn.{Turned, no_maps, counts_of}
 use Rattle.invariants.specs.Turns.{turns_from, steps_from}
 use Rattle.invariants.proofs.CheckLaws.{number-begins, passed-number}
 use Rattle.invariants.proofs.KeptLaws.{begun-passed}
 use Rattle.invariants.proofs.EndingLaws.{has_ended}
 use Rattle.invariants.proofs.StepLaws.{steps-turn}
-use Rattle.rows.specs.Map.{Held, map_in}
+use Rattle.rows.specs.Map.{map_in}
 use Rattle.stepper.specs.declared.Answered.{Answered}
 use Rattle.stepper.specs.Stepper.{After, Called, is_going, begin, begin_where, turned, check_at, finish}
 use Rattle.stepper.proofs.Laws.{called-turned, turn-may}
 use Rattle.turn.specs.Turning.{Turns}
-use Rattle.validity.specs.Validity.{high, begin_check}
+use Rattle.validity.specs.Validity.{begin_check}
 use Rattle.walk.specs.declared.Answer.TheVariants.{Going}
 use Rattle.walk.specs.declared.Counts.{Counts}
 use Rattle.walk.specs.declared.Options.{Options}
@@ -88,26 +88,41 @@ module _ (o : Options) (start : ℕ) (code starts : List ℕ) (n : Counts) (l : 
         steps.lists ∙ ap (λ (t : Turned). written (zeroed l) t.maps) turns in
         ap (on_from o code starts) opened-fresh ∙ rw (walks, holds, finish-ended last.walk last-ended)
 
-  -- ---- the code's calls, one by one
+-- ---- the code's calls, one by one
 
-  module _ (b : Answered) (m : Lists) (opens : Called b m opened) where
+module _ (given : Module) (start : ℕ) (n : Counts) (l : Lists) (b : Answered) (m : Lists) where
+  abbrev o : Options
+  o = given.options
+
+  abbrev code : List ℕ
+  code = given.code.now
+
+  abbrev starts : List ℕ
+  starts = given.starts.now
+
+  module _ (opens : Called b m (opened o start code starts n l)) where
     pub run-refused : is_going b.answer ≡ false → Called b m (run o code starts start n l)
-    run-refused off = subst⁻¹ (Called b m) (run-begin (ap is_going (sym opens.answers) ∙ off)) opens
+    run-refused off = subst⁻¹ (Called b m) (run-begin o start code starts n l (ap is_going (sym opens.answers) ∙ off)) opens
 
     module _ (going : is_going b.answer ≡ true) where
-      on : is_going opened.answer ≡ true
+      on : is_going (opened o start code starts n l).answer ≡ true
       on = ap is_going (sym opens.answers) ∙ going
 
-      walks : b.walk ≡ fresh.walk
-      walks = opens.walks ∙ ap (λ (x : After). x.walk) (opened-fresh on)
+      begins : opened o start code starts n l ≡ fresh o start code starts n l
+      begins = opened-fresh o start code starts n l on
+
+      walks : b.walk ≡ begun start (counts_of no_maps)
+      walks = opens.walks ∙ ap (λ (x : After). x.walk) begins
 
       holds : m ≡ zeroed l
-      holds = opens.holds ∙ ap (λ (x : After). x.lists) (opened-fresh on)
+      holds = opens.holds ∙ ap (λ (x : After). x.lists) begins
 
       -- what a turn asks for
-      pub run-may : (o.base + length code ≤ high) × Held 1 (length starts) starts × AllHeld b.walk.counts m
-      run-may = rw (walks, holds) (turn-may o code starts fresh.walk fresh.lists (fresh-number on))
+      pub run-may : Sound given × AllHeld b.walk.counts m
+      run-may = rw (walks, holds) (turn-may given (begun start (counts_of no_maps)) (zeroed l) (fresh-number o start code starts n l on))
 
-      pub run_on : (w : Walk) (k : Lists) → Turns w m k (turns_from (given_by o code starts m) (suc (length code)) (held b.walk m))
+      pub run_on : (w : Walk) (k : Lists) → Turns w m k (turns_from (given_to given m) (suc (length code)) (held b.walk m))
           → Called (record { walk = w; answer = w.result }) k (run o code starts start n l)
-      run_on w k t = subst⁻¹ (Called (record { walk = w; answer = w.result }) k) (run-whole on) (rw (walks, holds, first-held) at (called-turned t))
+      run_on w k t =
+          subst⁻¹ (Called (record { walk = w; answer = w.result }) k) (run-whole o start code starts n l on)
+          (rw (walks, holds, first-held o start code starts n l) at (called-turned t))

@@ -2,94 +2,44 @@
 // made once.
 #![tactic(auto)]
 
-ghost use Rattle.std.specs.Prelude.{suc, ◌+◌, ◌≤◌, length};
-ghost use Rattle.context.specs.Lists.{lists, AllHeld, maps_in, given_by};
+ghost use Rattle.std.specs.Prelude.{suc, length};
+ghost use Rattle.context.specs.Lists.{AllHeld, Sound, maps_in, given_to};
 ghost use Rattle.invariants.specs.Turns.{turns_from};
-ghost use Rattle.rows.specs.Map.{Held};
+ghost use Rattle.lists.specs.Lists.{lists_of, IsSame};
 ghost use Rattle.stepper.specs.Stepper.{Called};
 ghost use Rattle.turn.specs.Turning.{Turns};
 ghost use Rattle.whole.specs.Whole.{run};
 
+use calls::CallList;
+use context::Module;
+use lists::Lists;
 use stepper::{Answered, is_going};
 use turn::turn;
-use walk::{Counts, Options, Walk};
+use walk::{Counts, Walk};
 
-// On until the walk has a result.
-fn walk_on(
-    o: Options,
-    w: Walk,
-    code: &[u8],
-    starts: &[u32],
-    labels: &mut [u32],
-    pools: &mut [u32],
-    jump_tables: &mut [u32],
-    inline_tables: &mut [u32],
-    calls: &mut [u32],
-) -> Walk
-    requires { (o.base + length code.now ≤ 0x0300_0000) × Held 1 (length starts.now) starts.now × AllHeld w.counts (lists labels.old pools.old jump_tables.old inline_tables.old calls.old) }
-    ensures { Turns result (lists labels.old pools.old jump_tables.old inline_tables.old calls.old) (lists labels.new pools.new jump_tables.new inline_tables.new calls.new) (turns_from (given_by o code.now starts.now (lists labels.old pools.old jump_tables.old inline_tables.old calls.old)) (suc (length code.now)) (record { walk = w; maps = maps_in w.counts (lists labels.old pools.old jump_tables.old inline_tables.old calls.old) })) }
+// On until the walk has a result: a `while`, since how many turns that takes is known by the walk alone.
+fn walk_on<C: CallList>(m: Module, w: Walk, lists: &mut Lists<C>) -> Walk
+    requires { Sound m × AllHeld w.counts (lists_of C.numbers lists.old) }
+    ensures same { IsSame C.is_same lists.old lists.new }
+    ensures turns { Turns result (lists_of C.numbers lists.old) (lists_of C.numbers lists.new) (turns_from (given_to m.entry (lists_of C.numbers lists.old)) (suc (length m.entry.code.now)) (record { walk = w; maps = maps_in w.counts (lists_of C.numbers lists.old) })) }
 {
     let mut here = w;
-    let mut result = w.result;
-    while is_going(result) {
-        here = turn(
-            o,
-            here,
-            code,
-            starts,
-            labels,
-            pools,
-            jump_tables,
-            inline_tables,
-            calls,
-        );
-        result = here.result;
+    while is_going(here.result) {
+        here = turn(m, here, lists);
     }
     here
 }
 
 // Begin, steps until the end, and finish. A begin that is refused is the answer.
-pub fn run(
-    o: Options,
-    start: u32,
-    code: &[u8],
-    starts: &[u32],
-    labels: &mut [u32],
-    pools: &mut [u32],
-    jump_tables: &mut [u32],
-    inline_tables: &mut [u32],
-    calls: &mut [u32],
-    counts: Counts,
-) -> Answered
-    ensures { Called result (lists labels.new pools.new jump_tables.new inline_tables.new calls.new) (run o code.now starts.now start counts (lists labels.old pools.old jump_tables.old inline_tables.old calls.old)) }
+pub fn run<C: CallList>(m: Module, start: u32, lists: &mut Lists<C>, counts: Counts) -> Answered
+    ensures same { IsSame C.is_same lists.old lists.new }
+    ensures called { Called result (lists_of C.numbers lists.new) (run m.entry.options m.entry.code.now m.entry.starts.now start counts (lists_of C.numbers lists.old)) }
 {
-    let begun = stepper::begin(
-        o,
-        start,
-        code,
-        starts,
-        labels,
-        pools,
-        jump_tables,
-        inline_tables,
-        calls,
-        counts,
-    );
-    let answer = begun.answer;
-    if !is_going(answer) {
+    let begun = stepper::begin(m, start, lists, counts);
+    if !is_going(begun.answer) {
         return begun;
     }
-    let walk = walk_on(
-        o,
-        begun.walk,
-        code,
-        starts,
-        labels,
-        pools,
-        jump_tables,
-        inline_tables,
-        calls,
-    );
+    let walk = walk_on(m, begun.walk, lists);
     let answer = walk.result;
     Answered { walk, answer }
 }

@@ -1,6 +1,6 @@
 -- The laws of the lines and of the answer.
 -- Assumes nothing.
-use Rattle.base.proofs.Prelude.{refl, ◌≡◌, false, true, Bool, List, [], ◌∷◌, ◌++◌, ◌≤◌, ℕ, ◌+◌, ◌<◌, suc, ◌*◌, zero, ◌^◌, ◌/◌, ◌%◌}
+use Rattle.base.proofs.Prelude.{refl, ◌≡◌, false, true, Bool, List, [], ◌∷◌, ◌++◌, ◌≤◌, ℕ, ◌+◌, ◌<◌, suc, ◌*◌, zero, ◌/◌, ◌%◌}
 use Rattle.base.proofs.Prelude.{zero-le, arith, add-one, eqb, leb, length, length-append, eq-eqb, ne_eqb, le-leb, lt-leb, leb-true}
 use Rattle.base.specs.Choice.{pick}
 use Rattle.text.specs.declared.writer.Writer.{Writer}
@@ -9,22 +9,21 @@ use Rattle.text.specs.Writers.{Wrote}
 use Rattle.text.proofs.Hex.{hex-length}
 use Rattle.text.proofs.Put.{put-length}
 use Rattle.classes.specs.Class.{class_no}
+use Rattle.classes.specs.Cond.{cond_no}
 use Rattle.arm.specs.Naming.{class_of}
 use Rattle.arm.specs.Ins.{decode_of}
 use Rattle.classes.specs.declared.Class.{Class}
 use Rattle.arm.specs.declared.Ins.{Ins}
 use Rattle.std.specs.Prelude.{Result, Ok, Err}
 use Rattle.words.specs.declared.NoRoom.{NoRoom}
+use Rattle.words.specs.declared.Text.{Text}
+use Rattle.words.specs.declared.Text.TheVariants.{Decode, Class as Classes}
 use Rattle.words.specs.Names.{bytes, entry, names, name_of, name_no, conditions, cond_of}
 use Rattle.words.specs.Lines.{field, head_of, tail_of, class_line_of, ins_line_of, line_of, line_as, lines_of, word_at}
 use Rattle.words.specs.Answer.{accepted, refusal, text_as, text_of, class_text_of, room_for, no_room, Answered}
 use Rattle.words.proofs.Tables.{name-short, condition-short}
 
 -- ---- the parts of a line
-
-pub condition-is : (w address : ℕ) → (decode_of w address).cond ≡ w / 2 ^ 28
-unfolding decode_of
-condition-is w address = refl
 
 -- a line is the same at every address
 line-anywhere : (w address : ℕ) → ins_line_of w (decode_of w address) ≡ line_of w
@@ -45,13 +44,13 @@ ins-line-length : (w : ℕ) (i : Ins) → length (ins_line_of w i) ≤ 32
 unfolding ins_line_of tail_of
 ins-line-length w i =
     let head = head-length w i.class in
-    let condition = condition-short i.cond in
+    let condition = condition-short (cond_no i.cond) in
     simp (length-append, hex-length) (omega arith)
 
-pub line-length : (full : Bool) (w : ℕ) → length (line_as full w) ≤ 32
+pub line-length : (text : Text) (w : ℕ) → length (line_as text w) ≤ 32
 unfolding line_of
-line-length true w = ins-line-length w (decode_of w 0)
-line-length false w = class-line-length w
+line-length Decode w = ins-line-length w (decode_of w 0)
+line-length Classes w = class-line-length w
 
 -- ---- the lines
 
@@ -60,12 +59,12 @@ pub lines_more : (line : ℕ → List ℕ) (input : List ℕ) (i : ℕ) → line
 unfolding lines_of
 lines_more line input i = rw add-one
 
-pub lines-length : (full : Bool) (input : List ℕ) (n : ℕ) → length (lines_of (line_as full) input n) ≤ 32 * n
+pub lines-length : (text : Text) (input : List ℕ) (n : ℕ) → length (lines_of (line_as text) input n) ≤ 32 * n
 unfolding lines_of
-lines-length full input zero = zero-le
-lines-length full input (suc n) =
-    let fore = lines-length full input n in
-    let line = line-length full (word_at input (4 * n)) in
+lines-length text input zero = zero-le
+lines-length text input (suc n) =
+    let fore = lines-length text input n in
+    let line = line-length text (word_at input (4 * n)) in
     simp length-append (omega arith)
 
 -- ---- which inputs are taken
@@ -87,18 +86,18 @@ unfolding accepted
 whole input h k = rw (eq-eqb (length input % 4) 0 h, le-leb (length input) 65536 k)
 
 module _ (input : List ℕ) (refused : accepted input ≡ false) where
-  pub text-refused : (full : Bool) → text_as full input ≡ refusal
+  pub text-refused : (text : Text) → text_as text input ≡ refusal
   unfolding text_as
-  text-refused full = rw refused
+  text-refused text = rw refused
 
   pub room-refused : room_for input ≡ 20
   unfolding room_for
   room-refused = rw refused
 
 module _ (input : List ℕ) (taken : accepted input ≡ true) where
-  pub text-accepted : (full : Bool) → text_as full input ≡ lines_of (line_as full) input (length input / 4)
+  pub text-accepted : (text : Text) → text_as text input ≡ lines_of (line_as text) input (length input / 4)
   unfolding text_as
-  text-accepted full = rw taken
+  text-accepted text = rw taken
 
   pub room-accepted : room_for input ≡ 32 * (length input / 4)
   unfolding room_for
@@ -119,12 +118,12 @@ pub answered-wrote : {text out after : List ℕ} {v w : Writer} (room : ℕ) →
     → v.at ≡ 0 → v.out.now ≡ out → Wrote v w text → after ≡ w.out.now → Answered text room out (Ok w.at) after
 answered-wrote room h start unwritten w left = answered-text room h (rw (left, ← start, ← unwritten) w.text)
 
-pub text-fits : (full : Bool) (input : List ℕ) → length (text_as full input) ≤ room_for input
+pub text-fits : (text : Text) (input : List ℕ) → length (text_as text input) ≤ room_for input
 unfolding text_as room_for refusal bytes
-text-fits full input = fits (accepted input)
+text-fits text input = fits (accepted input)
   where
-    fits : (t : Bool) → length (pick t (lines_of (line_as full) input (length input / 4)) refusal) ≤ pick t (32 * (length input / 4)) 20
-    fits true = lines-length full input (length input / 4)
+    fits : (t : Bool) → length (pick t (lines_of (line_as text) input (length input / 4)) refusal) ≤ pick t (32 * (length input / 4)) 20
+    fits true = lines-length text input (length input / 4)
     fits false = omega arith
 
 -- an answer of n bytes lies within the buffer

@@ -1,9 +1,11 @@
 -- The text of an input, and what its writer answers and leaves in the buffer.
 -- Assumes nothing.
-use Rattle.std.specs.Prelude.{ℕ, ◌*◌, ◌/◌, ◌%◌, ◌≡◌, Bool, true, false, List, Result, Ok, Err, eqb, leb, length}
+use Rattle.std.specs.Prelude.{ℕ, ◌*◌, ◌/◌, ◌%◌, ◌≡◌, Bool, false, List, Result, Ok, Err, eqb, leb, length}
 use Rattle.base.specs.Choice.{pick}
 use Rattle.text.specs.Put.{put}
 use Rattle.words.specs.declared.NoRoom.{NoRoom}
+use Rattle.words.specs.declared.Text.{Text}
+use Rattle.words.specs.declared.Text.TheVariants.{Decode, Class}
 use Rattle.words.specs.Names.{bytes}
 use Rattle.words.specs.Lines.{line_as, lines_of}
 
@@ -16,14 +18,14 @@ unfoldable pub refusal : List ℕ
 refusal = bytes "refused 16 00000000\n"
 
 -- a line for each word
-unfoldable pub text_as : Bool → List ℕ → List ℕ
-text_as full input = pick (accepted input) (lines_of (line_as full) input (length input / 4)) refusal
+unfoldable pub text_as : Text → List ℕ → List ℕ
+text_as text input = pick (accepted input) (lines_of (line_as text) input (length input / 4)) refusal
 
 unfoldable pub text_of : List ℕ → List ℕ
-text_of input = text_as true input
+text_of input = text_as Decode input
 
 unfoldable pub class_text_of : List ℕ → List ℕ
-class_text_of input = text_as false input
+class_text_of input = text_as Class input
 
 -- how many bytes the buffer must have: 32 for each word, the longest line; 20 for a refusal
 unfoldable pub room_for : List ℕ → ℕ

@@ -4,9 +4,12 @@ use Rattle.std.specs.Prelude.{ℕ, zero, suc, ◌+◌, ◌*◌, ◌^◌, Bool, t
 use Prim.Native.Char.{code}
 use Rattle.text.specs.Hex.{hex}
 use Rattle.classes.specs.declared.Class.{Class}
+use Rattle.classes.specs.Cond.{cond_no}
 use Rattle.arm.specs.declared.Ins.{Ins}
 use Rattle.arm.specs.Naming.{class_of}
 use Rattle.arm.specs.Ins.{decode_of}
+use Rattle.words.specs.declared.Text.{Text}
+use Rattle.words.specs.declared.Text.TheVariants.{Decode, Class as Classes}
 use Rattle.words.specs.Names.{name_of, cond_of}
 
 -- ---- a line
@@ -35,7 +38,7 @@ class_line_of w = head_of w (class_of w) ++ (10 ∷ [])
 -- the decode text's line of a decoded word: its condition, the registers that it reads, those that it writes, and its flags
 unfoldable pub ins_line_of : ℕ → Ins → List ℕ
 ins_line_of w i =
-    head_of w i.class ++ field (cond_of i.cond) ++ field (hex 4 i.uses) ++ field (hex 4 i.defs)
+    head_of w i.class ++ field (cond_of (cond_no i.cond)) ++ field (hex 4 i.uses) ++ field (hex 4 i.defs)
     ++ tail_of i.updates_condition_flags
 
 -- no part of the line depends on the address
@@ -43,9 +46,9 @@ unfoldable pub line_of : ℕ → List ℕ
 line_of w = ins_line_of w (decode_of w 0)
 
 -- the decode text's line, or the class text's
-abbrev pub line_as : Bool → ℕ → List ℕ
-line_as true = line_of
-line_as false = class_line_of
+abbrev pub line_as : Text → ℕ → List ℕ
+line_as Decode = line_of
+line_as Classes = class_line_of
 
 -- ---- the lines of an input
 

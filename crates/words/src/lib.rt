@@ -9,7 +9,7 @@ pub mod output;
 ghost use Rattle.std.specs.Prelude.{◌≡◌, ◌+◌, ◌*◌, ◌/◌, ◌≤◌, ◌<◌, length};
 ghost use Rattle.text.specs.Hex.{hex};
 ghost use Rattle.text.specs.Writers.{HasRoom, Wrote};
-ghost use Rattle.words.specs.Names.{name_no, cond_of};
+ghost use Rattle.words.specs.Names.{name_of, cond_of};
 ghost use Rattle.words.specs.Lines.{field, flag_of, head_of, class_line_of, line_of, line_as, word_at, lines_of};
 ghost use Rattle.words.specs.Answer.{Answered, refusal, text_as, text_of, class_text_of, room_for};
 
@@ -20,21 +20,25 @@ use text::Writer;
 #[derive(Clone, Copy, Debug, PartialEq, Eq)]
 pub struct NoRoom;
 
-// A row of eight bytes for each class, in the order of their numbers: how long the name is, and the
-// name with spaces after it. Bytes: with a table of texts the proof did not close.
-const NAMES: [u8; 592] = *b"\
-    3ADC    3ADD    3AND    1B      3BIC    4BKPT   2BL     4BLX1   4BLX2   \
-    2BX     3CDP    3CLZ    3CMN    3CMP    3EOR    3LDC    3LDM    3LDR    \
-    4LDRB   5LDRBT  4LDRD   4LDRH   5LDRSB  5LDRSH  4LDRT   3MCR    4MCRR   \
-    3MLA    3MOV    3MRC    4MRRC   3MRS    3MSR    3MUL    3MVN    3ORR    \
-    3PLD    4QADD   5QDADD  5QDSUB  4QSUB   3RSB    3RSC    3SBC    5SMLAL  \
-    7SMLALXY6SMLAWY 6SMLAXY 5SMULL  6SMULWY 6SMULXY 3STC    3STM    3STR    \
-    4STRB   5STRBT  4STRD   4STRH   4STRT   3SUB    3SWI    3SWP    4SWPB   \
-    3TEQ    3TST    5UMLAL  5UMULL  4PUSH   3POP    3LSL    3LSR    3ASR    \
-    3ROR    7ILLEGAL\
-";
+// Which of the two texts. With a function in its place, `output::run` would require that it may be called.
+#[derive(Clone, Copy)]
+pub enum Text {
+    Decode,
+    Class,
+}
 
-// Two letters for each condition.
+// The name of each class, in the order of their numbers.
+const NAMES: [&str; 74] = [
+    "ADC", "ADD", "AND", "B", "BIC", "BKPT", "BL", "BLX1", "BLX2", "BX", "CDP", "CLZ", "CMN",
+    "CMP", "EOR", "LDC", "LDM", "LDR", "LDRB", "LDRBT", "LDRD", "LDRH", "LDRSB", "LDRSH", "LDRT",
+    "MCR", "MCRR", "MLA", "MOV", "MRC", "MRRC", "MRS", "MSR", "MUL", "MVN", "ORR", "PLD", "QADD",
+    "QDADD", "QDSUB", "QSUB", "RSB", "RSC", "SBC", "SMLAL", "SMLALXY", "SMLAWY", "SMLAXY", "SMULL",
+    "SMULWY", "SMULXY", "STC", "STM", "STR", "STRB", "STRBT", "STRD", "STRH", "STRT", "SUB", "SWI",
+    "SWP", "SWPB", "TEQ", "TST", "UMLAL", "UMULL", "PUSH", "POP", "LSL", "LSR", "ASR", "ROR",
+    "ILLEGAL",
+];
+
+// Two letters for each condition: `Hs` is cs here, and `Lo` cc.
 const CONDITIONS: [[u8; 2]; 16] = [
     *b"eq", *b"ne", *b"cs", *b"cc", *b"mi", *b"pl", *b"vs", *b"vc", *b"hi", *b"ls", *b"ge", *b"lt",
     *b"gt", *b"le", *b"al", *b"nv",
@@ -57,22 +61,12 @@ fn put_field(writer: &mut Writer<'_>, piece: &[u8])
     writer.put_bytes(piece);
 }
 
-// How long the name of the class with a number is.
-fn name_length(number: u8) -> usize
-    requires { number < 74 }
-    ensures { result ≡ length (name_no number) }
+// The name of a class.
+fn put_name(writer: &mut Writer<'_>, class: Class)
+    requires { HasRoom writer.old 8 }
+    ensures { Wrote writer.old writer.new (field (name_of class)) }
 {
-    (NAMES[number as usize * 8] - b'0') as usize
-}
-
-// That name.
-fn put_name(writer: &mut Writer<'_>, number: u8)
-    requires { (number < 74) × HasRoom writer.old 8 }
-    ensures { Wrote writer.old writer.new (field (name_no number)) }
-{
-    let start = number as usize * 8 + 1;
-    let end = start + name_length(number);
-    put_field(writer, &NAMES[start..end]);
+    put_field(writer, NAMES[u8::from(class) as usize].as_bytes());
 }
 
 // A set of registers.
@@ -90,7 +84,7 @@ fn put_head(writer: &mut Writer<'_>, word: u32, class: Class)
     ensures { Wrote writer.old writer.new (head_of word class) }
 {
     writer.put_hex(8, word);
-    put_name(writer, u8::from(class));
+    put_name(writer, class);
 }
 
 // A line of the class text.
@@ -116,31 +110,30 @@ fn put_line(writer: &mut Writer<'_>, word: u32)
 {
     let ins = arm::decode(word, 0);
     put_head(writer, word, ins.class);
-    put_field(writer, &CONDITIONS[ins.cond as usize]);
+    put_field(writer, &CONDITIONS[u8::from(ins.cond) as usize]);
     put_set(writer, ins.uses);
     put_set(writer, ins.defs);
     put_field(writer, &[flag_letter(ins.updates_condition_flags), b'\n']);
 }
 
-// A line of one text or the other. A closure in place of `full` is no plainer: its clause would stand at each of three functions.
-fn put_line_as(writer: &mut Writer<'_>, word: u32, full: bool)
+// A line of one text or the other.
+fn put_line_as(writer: &mut Writer<'_>, word: u32, text: Text)
     requires { HasRoom writer.old 32 }
-    ensures { Wrote writer.old writer.new (line_as full word) }
+    ensures { Wrote writer.old writer.new (line_as text word) }
 {
-    if full {
-        put_line(writer, word);
-    } else {
-        put_class_line(writer, word);
+    match text {
+        Text::Decode => put_line(writer, word),
+        Text::Class => put_class_line(writer, word),
     }
 }
 
 // The lines of all words.
-fn put_lines(writer: &mut Writer<'_>, input: &[u8], full: bool)
+fn put_lines(writer: &mut Writer<'_>, input: &[u8], text: Text)
     requires { HasRoom writer.old (32 * (length input.now / 4)) }
-    ensures { Wrote writer.old writer.new (lines_of (line_as full) input.now (length input.now / 4)) }
+    ensures { Wrote writer.old writer.new (lines_of (line_as text) input.now (length input.now / 4)) }
 {
     for i in 0..input.len() / 4 {
-        put_line_as(writer, word_at(input, 4 * i), full);
+        put_line_as(writer, word_at(input, 4 * i), text);
     }
 }
 
@@ -157,8 +150,8 @@ fn refuse(out: &mut [u8]) -> Result<usize, NoRoom>
 }
 
 // The whole text, or the line that says that the input is refused.
-pub(crate) fn put_text(input: &[u8], out: &mut [u8], full: bool) -> Result<usize, NoRoom>
-    ensures { Answered (text_as full input.now) (room_for input.now) out.old result out.new }
+pub(crate) fn put_text(input: &[u8], out: &mut [u8], text: Text) -> Result<usize, NoRoom>
+    ensures { Answered (text_as text input.now) (room_for input.now) out.old result out.new }
 {
     if input.len() % 4 != 0 || input.len() > 65536 {
         return refuse(out);
@@ -167,7 +160,7 @@ pub(crate) fn put_text(input: &[u8], out: &mut [u8], full: bool) -> Result<usize
         return Err(NoRoom);
     }
     let mut writer = Writer::new(out);
-    put_lines(&mut writer, input, full);
+    put_lines(&mut writer, input, text);
     Ok(writer.at)
 }
 
@@ -176,7 +169,7 @@ pub(crate) fn put_text(input: &[u8], out: &mut [u8], full: bool) -> Result<usize
 pub fn decode_text(input: &[u8], out: &mut [u8]) -> Result<usize, NoRoom>
     ensures { Answered (text_of input.now) (room_for input.now) out.old result out.new }
 {
-    put_text(input, out, true)
+    put_text(input, out, Text::Decode)
 }
 
 // The class text of `input`, at the start of `out`.
@@ -184,5 +177,5 @@ pub fn decode_text(input: &[u8], out: &mut [u8]) -> Result<usize, NoRoom>
 pub fn class_text(input: &[u8], out: &mut [u8]) -> Result<usize, NoRoom>
     ensures { Answered (class_text_of input.now) (room_for input.now) out.old result out.new }
 {
-    put_text(input, out, false)
+    put_text(input, out, Text::Class)
 }

@@ -1,17 +1,17 @@
 // The texts' work on streams.
-use crate::put_text;
+use crate::{Text, put_text};
 use std::io::{self, Read, Stdin, Stdout, Write};
 
-// The text of the words that a stream has, written to another: the decode text if `full` holds, or else the class text.
+// The text of the words that a stream has, written to another.
 fn translate<R: Read, W: Write>(
     from: &mut R,
     output: &mut W,
     input: &mut [u8],
     out: &mut [u8],
-    full: bool,
+    text: Text,
 ) -> io::Result<()> {
     let n = streams::read_full(from, input)?;
-    if let Ok(length) = put_text(&input[..n], out, full) {
+    if let Ok(length) = put_text(&input[..n], out, text) {
         output.write_all(&out[..length])?;
     }
     Ok(())
@@ -23,7 +23,7 @@ pub fn run(
     output: &mut Stdout,
     input: &mut [u8; 65537],
     out: &mut [u8; 524288],
-    full: bool,
+    text: Text,
 ) -> io::Result<()> {
-    translate(from, output, &mut input[..], &mut out[..], full)
+    translate(from, output, &mut input[..], &mut out[..], text)
 }

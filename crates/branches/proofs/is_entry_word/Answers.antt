@@ -6,5 +6,5 @@ use Rattle.branches.proofs.is_entry_word.Goals as goal
 pub returns-then-word-eq59693 : goal.returns-then-word-eq59693
 returns-then-word-eq59693 c = λ a. entry-block c.args.word a c.if-word-eq59693.true
 
-pub returns : goal.returns
-returns c = λ a. entry-single c.args.word a (omega arith) c.if-word-eq59693.false
+pub returns-else-word-eq59693 : goal.returns-else-word-eq59693
+returns-else-word-eq59693 c = λ a. entry-single c.args.word a (omega arith) c.if-word-eq59693.false

@@ -2,7 +2,7 @@
 use Rattle.base.proofs.Prelude.{◌∙◌, sym}
 use borrow.Author.Rules.{part_to_end}
 use Rattle.request.proofs.RequestLaws.{asked-length}
-use Rattle.finder.proofs.FinderLaws.{asked-finds, refused-finds}
+use Rattle.finder.proofs.FinderLaws.{asked-finds}
 use Rattle.finder.proofs.find.Goals as goal
 
 pub slice_bounds-walk_whole-count : goal.slice_bounds-walk_whole-count
@@ -11,8 +11,5 @@ slice_bounds-walk_whole-count c = asked-length _ _ (sym c.parse.ensures ∙ c.in
 pub slice_bounds-walk_whole-start : goal.slice_bounds-walk_whole-start
 slice_bounds-walk_whole-start c = asked-length _ _ (sym c.parse.ensures ∙ c.in-Some.is)
 
-pub returns-in-Some : goal.returns-in-Some
-returns-in-Some c = asked-finds _ _ _ _ _ (sym c.parse.ensures ∙ c.in-Some.is) (rw part_to_end at c.walk_whole.ensures)
-
-pub returns-in-None : goal.returns-in-None
-returns-in-None c = refused-finds _ _ _ (sym c.parse.ensures ∙ c.in-None.is) c.no_counts.ensures
+pub returns-in-Some-clause-found : goal.returns-in-Some-clause-found
+returns-in-Some-clause-found c = asked-finds _ _ _ _ _ (sym c.parse.ensures ∙ c.in-Some.is) (rw part_to_end at c.walk_whole.ensures.found)

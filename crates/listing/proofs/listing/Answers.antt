@@ -1,14 +1,13 @@
 -- `listing::listing` meets its contract: the lines are written at the buffer's start, or there is too little room.
 use Rattle.base.proofs.Prelude.{◌∙◌, sym, arith, rules, length, leb-true, leb-false}
 use Rattle.words.proofs.Texts.{answered-none, answered-wrote}
-use Rattle.listing.specs.Listing.{text_of, room_with, room_for}
+use Rattle.listing.specs.Listing.{rows_of, text_of, room_with, room_for}
 use Rattle.listing.proofs.ListingLaws.{shown-fits}
-use Rattle.context.specs.Lists.{lists}
 use Rattle.listing.proofs.listing.Goals as goal
 
 pub has_room-requires : goal.has_room-requires
 has_room-requires c =
-    let f = shown-fits (lists c.args.labels.now c.args.pools.now c.args.jump_tables.now c.args.inline_tables.now c.args.calls.now) c.args.counts in
+    let f = shown-fits (rows_of c.args.lists) c.args.counts in
     rw c.shown-n.ensures (omega (arith, f.labels, f.pools, f.jump_tables, f.inline_tables, f.calls))
 
 pub returns-then-not-has_room : goal.returns-then-not-has_room

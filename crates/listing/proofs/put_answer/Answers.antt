@@ -26,4 +26,4 @@ returns-in-Accepted c = rw c.in-Accepted.is (wrote_then c.put_record.ensures.0 c
 
 pub returns-in-Refused : goal.returns-in-Refused
 unfolding text_with
-returns-in-Refused c = rw (c.in-Refused.is, ← c.from.ensures) c.put_refusal.ensures
+returns-in-Refused c = rw c.in-Refused.is c.put_refusal.ensures

@@ -8,15 +8,16 @@ use Rattle.listing.specs.Listing.{refusal_line}
 use Rattle.listing.proofs.put_refusal.Goals as goal
 
 pub put_decimal-requires : goal.put_decimal-requires
-put_decimal-requires c = omega (arith, decimal-length 3 c.args.number (omega arith) (omega arith) (omega (arith, c.ranges.number)))
+put_decimal-requires c = omega (arith, decimal-length 3 c.from.result (omega arith) (omega arith) (omega arith))
 
 pub put_field-requires : goal.put_field-requires
-put_field-requires c = omega (arith, decimal-length 3 c.args.number (omega arith) (omega arith) (omega (arith, c.ranges.number)))
+put_field-requires c = omega (arith, decimal-length 3 c.from.result (omega arith) (omega arith) (omega arith))
 
 pub put_byte-requires : goal.put_byte-requires
-put_byte-requires c = omega (arith, decimal-length 3 c.args.number (omega arith) (omega arith) (omega (arith, c.ranges.number)))
+put_byte-requires c = omega (arith, decimal-length 3 c.from.result (omega arith) (omega arith) (omega arith))
 
 pub returns : goal.returns
 unfolding refusal_line newline bytes
 returns c =
-    wrote_then (wrote_then (wrote_then c.put_bytes.ensures c.put_decimal.ensures) c.put_field.ensures.0) c.put_byte.ensures
+    rw (← c.from.ensures)
+    (wrote_then (wrote_then (wrote_then c.put_bytes.ensures c.put_decimal.ensures) c.put_field.ensures.0) c.put_byte.ensures)

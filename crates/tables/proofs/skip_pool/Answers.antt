@@ -5,4 +5,4 @@ use Rattle.tables.proofs.skip_pool.Goals as goal
 
 pub returns : goal.returns
 unfolding skip_pool
-returns c = λ l h. rw (← c.contains-is_pool.ensures, ← skipped-pool) (rw c.then_some.ensures at c.skip.ensures _ h)
+returns c = λ l h. rw (← (rw c.new-pools.ensures at c.contains-is_pool.ensures), ← skipped-pool) (rw c.then_some.ensures at c.skip.ensures _ h)

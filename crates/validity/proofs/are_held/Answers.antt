@@ -4,12 +4,11 @@ use Rattle.std.proofs.Common.{tests}
 use Rattle.std.proofs.lemmas.Iterator.{YieldsList-from_slice}
 use Rattle.std.proofs.lemmas.Iterator.Search.{all_from_yields_List}
 use Rattle.base.specs.Choice.{either}
-use Rattle.context.specs.Context.{pool_row}
-use Rattle.rows.specs.Map.{map_in, stands-in}
+use Rattle.rows.specs.Map.{stands-in}
 use Rattle.validity.proofs.Laws.{held-all}
 use Rattle.validity.proofs.are_held.Goals as goal
 
 pub returns : goal.returns
 returns c =
-    all_from_yields_List (λ source. either (eqb source 0) (stands-in (map_in pool_row c.args.count c.args.pools.now) source)) _ _ _ c.all.ensures.ran (YieldsList-from_slice _ c.iter.ensures.rest) (λ x b q k. search (rules, tests))
+    all_from_yields_List (λ source. either (eqb source 0) (stands-in c.args.pools.now.rows.now source)) _ _ _ c.all.ensures.ran (YieldsList-from_slice _ c.iter.ensures.rest) (λ x b q k. search (rules, tests))
     ∙ held-all _ _

@@ -1,7 +1,7 @@
 -- `validity::are_lists` meets its contract.
-use Rattle.base.proofs.Prelude.{◌∙◌, sym}
+use Rattle.base.proofs.Prelude.{◌∙◌, sym, arith}
 use Rattle.validity.proofs.Laws.{order-held}
 use Rattle.validity.proofs.are_lists.Goals as goal
 
-pub are_pools-requires : goal.are_pools-requires
-are_pools-requires c = (order-held _ _ (sym c.are_in_order.ensures ∙ c.if-are_in_order.true)).pools
+pub new-requires : goal.new-requires
+new-requires g c = (omega arith, ((order-held _ _ (sym c.in_order.ensures ∙ c.if-in_order.true)).pools, omega arith))

@@ -10,4 +10,4 @@ use Rattle.validity.proofs.are_whole.Goals as goal
 pub returns : goal.returns
 returns c =
     all_from_yields_List (λ pool. is_whole c.args.base c.args.length (get_or pool 0 0)) _ _ _ c.all.ensures.ran (YieldsList-from_slice _ c.iter.ensures.rest) (λ x b q k. search (rules, tests))
-    ∙ rw c.rows.ensures (whole-all _ _ _)
+    ∙ whole-all _ _ _

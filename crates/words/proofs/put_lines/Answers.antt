@@ -13,8 +13,8 @@ pub loop-i-preserved : goal.loop-i-preserved
 loop-i-preserved c =
     let turn = c.loop-i in
     let args = c.args in (
-      omega (arith, line-length args.full c.word_at.result),
-      rw (lines_more (line_as args.full) args.input.now turn.i, ← c.word_at.ensures) (wrote_then turn.invariant.1 c.put_line_as.ensures),
+      omega (arith, line-length args.text c.word_at.result),
+      rw (lines_more (line_as args.text) args.input.now turn.i, ← c.word_at.ensures) (wrote_then turn.invariant.1 c.put_line_as.ensures),
     )
 
 pub returns : goal.returns

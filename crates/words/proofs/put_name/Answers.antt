@@ -1,22 +1,24 @@
--- `words::put_name` meets its contract: the part of the table that it writes is the name, by the table's rule.
-use Rattle.base.proofs.Prelude.{arith}
-use Rattle.words.specs.Names.{bytes, names}
-use Rattle.words.proofs.Tables.{rows, name-short, name-part}
+-- `words::put_name` meets its contract: the text that it writes is the name, by the table's rule.
+use Rattle.base.proofs.Prelude.{◌≡◌, ◌∙◌, ap, arith}
+use Rattle.classes.specs.Class.{class_no}
+use Rattle.classes.proofs.Numbers.{class-below}
+use Rattle.words.specs.Names.{bytes, names, name_no, name_of}
+use Rattle.words.proofs.Tables.{texts, lent-row, name-row, name-short}
 use Rattle.words.proofs.put_name.Goals as goal
 
-pub overflow_add-end : goal.overflow_add-end
-overflow_add-end c = omega (arith, name-short c.args.number)
-
-pub slice_bounds-put_field-end : goal.slice_bounds-put_field-end
-slice_bounds-put_field-end c = omega (arith, name-short c.args.number)
+pub bounds-from : goal.bounds-from
+bounds-from c = omega (arith, class-below c.args.class)
 
 pub put_field-requires : goal.put_field-requires
-unfolding rows bytes names
+unfolding texts bytes names
 put_field-requires c =
-    let number = c.args.number in
-    rw (name-part number c.name_length.result (omega (arith, c)) c.name_length.ensures)
-    (omega (arith, name-short number))
+    let row = rw lent-row at c.as_bytes.ensures.value in
+    let name : c.as_bytes.result.now ≡ name_no c.from.result = row ∙ name-row c.from.result in
+    rw name (omega (arith, name-short c.from.result))
 
 pub returns : goal.returns
-unfolding rows bytes names
-returns c = rw (← name-part c.args.number c.name_length.result (omega (arith, c)) c.name_length.ensures) c.put_field.ensures
+unfolding texts bytes names name_of
+returns c =
+    let row = rw lent-row at c.as_bytes.ensures.value in
+    let name : c.as_bytes.result.now ≡ name_no (class_no c.args.class) = row ∙ name-row c.from.result ∙ ap name_no c.from.ensures in
+    rw name at c.put_field.ensures

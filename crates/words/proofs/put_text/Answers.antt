@@ -8,7 +8,7 @@ pub returns-then-input-ne0 : goal.returns-then-input-ne0
 returns-then-input-ne0 c =
     let input = c.args.input.now in
     let refused : accepted input ≡ false = ⊎_elim (not-whole input) (λ long. too_long input long.1) c.then-input-ne0.either in
-    rw (text-refused input refused c.args.full, room-refused input refused) c.refuse.ensures
+    rw (text-refused input refused c.args.text, room-refused input refused) c.refuse.ensures
 
 pub returns-then-out-input : goal.returns-then-out-input
 returns-then-out-input c =
@@ -23,5 +23,5 @@ returns c =
     let input = c.args.input.now in
     let taken = whole input c.if-input-ne0.false c.if-input-gt65536.false in
     let made = c.new-writer.ensures in
-    rw (text-accepted input taken c.args.full, room-accepted input taken)
+    rw (text-accepted input taken c.args.text, room-accepted input taken)
     (answered-wrote _ (omega (arith, c)) made.start made.unwritten c.put_lines.ensures (search rules))

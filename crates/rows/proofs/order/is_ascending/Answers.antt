@@ -1,40 +1,31 @@
--- `rows::order::is_ascending` meets its contract. The loop's invariant: the test on the addresses from i on, after the one before, decides.
-use Rattle.base.proofs.Prelude.{◌∙◌, sym, ◌≡◌, ap, arith, length}
+-- `rows::order::is_ascending` meets its contract. By what the library asks of each two neighbours; a row among others is no longer than the slice.
+use Rattle.base.proofs.Prelude.{◌≤◌, ◌<◌, ◌*◌, ◌/◌, ◌^◌, List, ℕ, ltb, length, rules, arith}
+use Rattle.std.proofs.Common.{tests}
+use Rattle.std.proofs.lemmas.List.Sorted.{answers_always}
+use denote.Param.Always.{mut_total}
+use native.Mathlib.Nat.{le-div_iff_mul-le}
+use Rattle.rows.specs.Map.{key_of, map_in}
 use Rattle.rows.specs.Order.{ascending}
-use Rattle.rows.proofs.OrderLaws.{rising-start, rising-more, rising-broken, rising-done}
-use Rattle.rows.specs.Map.{map_in}
-use Rattle.rows.proofs.MapLaws.{key-at, key-first}
-use Rattle.rows.proofs.SearchLaws.{keys_in, keys_length, keys-whole}
+use Rattle.rows.proofs.MapLaws.{chunks-are, row_fits}
+use Rattle.rows.proofs.OrderLaws.{ascends}
 use Rattle.rows.proofs.order.is_ascending.Goals as goal
 
 pub returns-then-count-eq0 : goal.returns-then-count-eq0
 unfolding ascending map_in
-returns-then-count-eq0 c = rw c.if-count-eq0.true
+returns-then-count-eq0 g c = rw c.if-count-eq0.true
 
-pub loop-i-init : goal.loop-i-init
-loop-i-init c =
-    let keys = keys_in c.args.stride c.args.count (c.args.list.now) in
-    let long : length keys ≡ c.args.count = keys_length _ _ _ in
-    (omega arith, rw (← key-first c.args.stride c.args.count (c.args.list.now) c.requires.0 (omega arith)) (ap ascending (sym (keys-whole c.args.stride c.args.count (c.args.list.now))) ∙ rising-start keys c.args.count (omega arith) (omega arith)))
+pub as_chunks-requires : goal.as_chunks-requires
+as_chunks-requires g c =
+    let size : length c.args.list.now * 4 < 2 ^ 63 = search rules in
+    (omega (arith, row_fits 0 c.args.count g.row.STRIDE (omega arith) c.requires.1), c.requires.0)
 
-pub returns-then-key-before : goal.returns-then-key-before
-returns-then-key-before c =
-    let keys = keys_in c.args.stride c.args.count (c.args.list.now) in
-    let long : length keys ≡ c.args.count = keys_length _ _ _ in
-    let turn = c.loop-i in
-    sym (turn.invariant.1 ∙ rising-broken turn.before keys turn.i c.args.count (omega arith) (omega arith) (rw (key-at c.args.stride c.args.count turn.i (c.args.list.now) c.requires.0 (omega arith)) c.if-key-before.true))
-
-pub loop-i-preserved : goal.loop-i-preserved
-loop-i-preserved c =
-    let keys = keys_in c.args.stride c.args.count (c.args.list.now) in
-    let long : length keys ≡ c.args.count = keys_length _ _ _ in
-    let turn = c.loop-i in
-    (omega arith, turn.invariant.1 ∙ rw (← key-at c.args.stride c.args.count turn.i (c.args.list.now) c.requires.0 (omega arith)) (rising-more turn.before keys turn.i c.args.count (omega arith) (omega arith) (rw (key-at c.args.stride c.args.count turn.i (c.args.list.now) c.requires.0 (omega arith)) c.if-key-before.false)))
+pub is_sorted_by-requires : goal.is_sorted_by-requires
+is_sorted_by-requires g c =
+    let some : 0 < g.row.STRIDE = c.requires.0 in
+    mut_total _ _ (λ s a. search rules)
 
 pub returns : goal.returns
-returns c =
-    let keys = keys_in c.args.stride c.args.count (c.args.list.now) in
-    let long : length keys ≡ c.args.count = keys_length _ _ _ in
-    let turn = c.loop-i in
-    let all : turn.i ≡ c.args.count = omega arith in
-    sym (turn.invariant.1 ∙ rw all (rising-done turn.before keys c.args.count))
+returns g c =
+    let room : c.args.count ≤ length c.args.list.now / g.row.STRIDE = (le-div_iff_mul-le {k = g.row.STRIDE} {x = c.args.count} {y = length c.args.list.now} c.requires.0).1 c.requires.1 in
+    rw (c.as_chunks.ensures.front, chunks-are g.row.STRIDE c.args.count (length c.args.list.now / g.row.STRIDE) c.args.list.now room)
+    at (ascends key_of _ c.is_sorted_by.result (c.is_sorted_by.ensures.cases (λ (x y : List ℕ). ltb (key_of x) (key_of y)) (answers_always _ _ _ (λ f a r g k. search (rules, tests)))))

@@ -1,7 +1,0 @@
--- `rows::search::contains` meets its contract. It asks at the place that the search finds.
-use Rattle.base.proofs.Prelude.{◌∙◌}
-use Rattle.rows.proofs.SearchLaws.{stands_at}
-use Rattle.rows.proofs.search.contains.Goals as goal
-
-pub returns : goal.returns
-returns c = c.is_at.ensures ∙ rw c.find-at.ensures (stands_at _ _)
