@@ -13,6 +13,7 @@ ghost use Rattle.calls.specs.Records.{row_of};
 
 use base::refusal::Refusal;
 
+// A record as a host lends it: four numbers, of which any may stand in it, the mode too.
 #[derive(Clone, Copy, PartialEq, Eq, Default)]
 pub struct Call {
     pub address: u32,

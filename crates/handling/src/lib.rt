@@ -1,6 +1,6 @@
 // The blocks of handle_ins_inner one after another, but for what touches the registers' arrays, which `handle_ins` does between and behind the
-// two functions here. The list of calls is not lent: what is asked of it is told before, and the call that is to be put in it comes back in
-// the state.
+// two functions here. Each is lent the lists that its blocks touch, one by one. The list of calls is not lent: what is asked of it is told before,
+// and the call that is to be put in it comes back in the state.
 #![tactic(auto)]
 
 ghost use Rattle.std.specs.Prelude.{◌≡◌, None, ◌+◌, ◌<◌, ◌^◌, length};

@@ -232,21 +232,20 @@ fn next_row(record: Record) -> Result<Row, Refusal> {
     }
 }
 
-fn line(record: Record) -> [u8; 63] {
-    let row = next_row(record).unwrap_or(REFUSED);
-    let numbers = [record.machine, row.tag, row.a, row.b, row.c, row.x, row.y];
-    let mut line = *b"                                                              \n";
-    for i in 0..7 {
-        text::put_hex(&mut line, 9 * i, 8, numbers[i]);
-    }
-    line
+fn write_line<W: Write>(output: &mut W, record: Record) -> io::Result<()> {
+    let machine = record.machine;
+    let Row { tag, a, b, c, x, y } = next_row(record).unwrap_or(REFUSED);
+    writeln!(
+        output,
+        "{machine:08x} {tag:08x} {a:08x} {b:08x} {c:08x} {x:08x} {y:08x}"
+    )
 }
 
 // A line for each record; what is left over at the end is none.
 fn write_lines<W: Write>(output: &mut W, input: &[u8]) -> io::Result<()> {
     let (records, _) = input.as_chunks::<32>();
     for record in records {
-        output.write_all(&line(Record::read(record)))?;
+        write_line(output, Record::read(record))?;
     }
     Ok(())
 }

@@ -59,7 +59,7 @@ pub fn refused_walk(w: Walk, counts: Counts, refusal: Refusal, address: u32, reg
     }
 }
 
-// The first pool, 0 where there is none.
+// The first pool, 0 where there is none, as the walk's state has a missing address.
 fn first_pool(pools: &Pools) -> u32
     ensures { result ≡ key_or0 (first_key pools.now.rows.now) }
 {

@@ -1,7 +1,8 @@
 // The blocks of a step about data among the instructions: pools and inline tables that the walk skips, tables that it finds.
 //
-// That a slice holds its map, and that the instruction's end is below 2^32, stay `requires`, here as in the other blocks: the count stands in the
-// state, which every block makes anew, so that a type with these facts would owe them at each.
+// That a slice holds its map stays a `requires`, here as in the other blocks: a list is lent to all blocks of a step, and what one block writes
+// the next reads, so the rows are made of it where they are read. That the instruction's end is below 2^32 stays one too: it is of two values,
+// the state's address and the instruction's size.
 #![tactic(auto)]
 
 ghost use Rattle.std.specs.Prelude.{◌≡◌, ◌+◌, ◌<◌, ◌^◌, ltb, leb};

@@ -83,7 +83,7 @@ fn are_held(sources: [u32; 16], pools: &Pools) -> bool
     sources.iter().all(|&at| at == 0 || pools.contains(at))
 }
 
-// The last pool, 0 where there is none.
+// The last pool, 0 where there is none, as the walk's state has a missing address.
 fn last_pool(pools: &Pools) -> u32
     ensures { result ≡ key_or0 (last_key pools.now.rows.now) }
 {

@@ -45,7 +45,8 @@ fn put_calls(output: &mut Stdout, calls: &[u32], count: usize) -> io::Result<()>
     Ok(())
 }
 
-// The first place after the rows that does not hold zero: a walk leaves none. One function for every width; no `Rows`, since nothing has checked them.
+// The first place after the rows that does not hold zero: a walk leaves none. One function for every width; no `Rows`, since nothing has checked
+// them.
 fn put_rest(
     output: &mut Stdout,
     list: u32,

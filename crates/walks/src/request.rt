@@ -39,7 +39,7 @@ pub fn number(bytes: &[u8], at: usize) -> u32 {
     u32::from_be_bytes(four)
 }
 
-// 0 is no known end.
+// 0 is no known end, as in `listfn`'s request, which is another format.
 fn known(end: u32) -> Option<u32> {
     (end != 0).then_some(end)
 }
