@@ -168,7 +168,7 @@ pub fn branch(
 pub fn function_call(s: State, parsed: Parsed) -> Stepped
     ensures { Puts same same (function_call parsed.ins parsed.word) s result }
 {
-    match predicates::called(parsed.ins) {
+    match predicates::is_function_call(parsed.ins) {
         Some(mode) => call_to(s, parsed, mode),
         None => assign::on(s),
     }

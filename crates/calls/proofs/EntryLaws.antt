@@ -18,10 +18,10 @@ use Rattle.base.specs.Choice.{pick}
 use Rattle.base.proofs.ChoiceLaws.{both_first, both-second}
 use Rattle.context.specs.Context.{call_row}
 use Rattle.rows.specs.Order.{rising, ascending, zeros}
-use Rattle.rows.specs.Rows.{insert_at, rank, stands, inserted}
+use Rattle.rows.specs.Rows.{rank, stands, inserted}
 use Rattle.rows.specs.Map.{key_of, map_in, Held, Entering}
 use Rattle.rows.proofs.OrderLaws.{rising-ascending}
-use Rattle.rows.proofs.RowLaws.{inserted-is, insert_at-length, ascending-kept}
+use Rattle.rows.proofs.RowLaws.{insert_at, inserted-is, insert_at-length, ascending-kept}
 use Rattle.rows.proofs.MapLaws.{held-in-order, in-order-held}
 use Rattle.calls.specs.declared.Call.{Call}
 use Rattle.calls.specs.Records.{row_of, numbers_of}

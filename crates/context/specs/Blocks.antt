@@ -20,7 +20,7 @@ use Rattle.base.specs.declared.refusal.Refusal.TheVariants.{BranchOutside, PoolO
 use Rattle.base.specs.Words.{word_from}
 use Rattle.predicates.specs.declared.Mode.{Mode}
 use Rattle.predicates.specs.declared.Mode.TheVariants.{Arm, Thumb}
-use Rattle.predicates.specs.Predicates.{is_branch, is_bx, is_return, is_entry_instruction, is_pool_load, pool_address, called_by, as_previous}
+use Rattle.predicates.specs.Predicates.{is_branch, is_bx, is_return, is_entry_instruction, is_pool_load, pool_address, is_function_call, as_previous}
 use Rattle.registers.specs.Registers.{forgotten, holding, source_of}
 use Rattle.rows.specs.Rows.{rank, stands, inserted}
 use Rattle.rows.specs.Map.{key_of, stands-in, at_or_above}
@@ -290,7 +290,7 @@ module _ (i : Ins) where
   called_as word (Some Thumb) c = call_to i word thumb c
 
   unfoldable pub function_call : ℕ → Context → Step
-  function_call word c = called_as word (called_by i) c
+  function_call word c = called_as word (is_function_call i) c
 
   -- if self.check_defs_uses && !Self::is_nop(ins)
   abbrev pub checked_by : ℕ → Bool → Context → Step

@@ -37,7 +37,7 @@ use Rattle.context.specs.Context.{Context, Step, on, goes, ends, refuses, ◌▸
 use Rattle.context.specs.Context.{enter_label, enter_pool, enter_jump_table, enter_inline_table, enter_call, label_row, pool_row, table_row, call_row}
 use Rattle.predicates.specs.declared.Mode.{Mode}
 use Rattle.predicates.specs.declared.Mode.TheVariants.{Arm, Thumb}
-use Rattle.predicates.specs.Predicates.{is_branch, is_bx, is_entry_instruction, is_pool_load, pool_address, called_by}
+use Rattle.predicates.specs.Predicates.{is_branch, is_bx, is_entry_instruction, is_pool_load, pool_address, is_function_call}
 use Rattle.registers.specs.Registers.{source_of, holding}
 use Rattle.rows.specs.Rows.{inserted}
 use Rattle.rows.specs.Map.{key_of, stands-in, at_or_above, fits}
@@ -266,7 +266,7 @@ module _ (i : Ins) where
 
   function_call-late : (word : ℕ) (c : Context) → Late (function_call i word c)
   unfolding function_call
-  function_call-late word c = step (called_by i)
+  function_call-late word c = step (is_function_call i)
     where
       step : (f : Optional Mode) → Late (called_as i word f c)
       step None = is-on

@@ -27,7 +27,7 @@ use Rattle.context.specs.Context.{raising, table_to, pool_to, defining, moving, 
 use Rattle.context.specs.Context.{pool_row, table_row, call_row}
 use Rattle.predicates.specs.declared.Mode.{Mode}
 use Rattle.predicates.specs.declared.Mode.TheVariants.{Arm, Thumb}
-use Rattle.predicates.specs.Predicates.{is_branch, is_bx, is_return, is_entry_instruction, is_pool_load, pool_address, called_by, as_previous}
+use Rattle.predicates.specs.Predicates.{is_branch, is_bx, is_return, is_entry_instruction, is_pool_load, pool_address, is_function_call, as_previous}
 use Rattle.registers.specs.Registers.{forgotten, holding, source_of}
 use Rattle.rows.specs.Rows.{rank, inserted}
 use Rattle.rows.specs.Map.{key_of, stands-in, at_or_above, fits}
@@ -247,7 +247,7 @@ module _ (i : Ins) (size : ℕ) (P G : Context → Type 0) (E : ℕ → Context 
 
   function_call-kept : (word : ℕ) (c : Context) → P c → Meet (function_call i word c)
   unfolding function_call
-  function_call-kept word c p = called-kept word (called_by i) c p
+  function_call-kept word c p = called-kept word (is_function_call i) c p
 
   check_defined-kept : (returns : Bool) (c : Context) → P c → Meet (check_defined i returns c)
   unfolding check_defined

@@ -65,6 +65,15 @@ pool_from (negsuc n) = 0
 unfoldable pub pool_address : ℕ → Ins → ℕ
 pool_address address i = pool_from (pos address +ℤ offset_of i.addr)
 
+-- Function::is_function_call: by BL an ARM function, by BLX with an immediate a Thumb one
+unfoldable pub is_function_call : Ins → Option Mode
+is_function_call i = pick (is i.class Bl) (Some Arm) (pick (is i.class Blx1) (Some Thumb) None)
+
+-- a mode's number in a row of the calls
+abbrev pub mode_no : Mode → ℕ
+mode_no Arm = 0
+mode_no Thumb = 1
+
 -- is_return of an instruction that is not conditional, in the source's order
 abbrev pub is_ia : LdmStmMode → Bool
 is_ia Da = false
@@ -171,12 +180,3 @@ is_stack_store i = both (is i.class Str) (is_off_sp i.addr)
 -- prev_ins, as far as the walk asks
 unfoldable pub as_previous : Ins → Previous
 as_previous i = record { is_branch = is_branch i; is_conditional = is_conditional i.cond; is_adds_four = is_adds_four i }
-
--- a mode's number in a row of the calls
-abbrev pub mode_no : Mode → ℕ
-mode_no Arm = 0
-mode_no Thumb = 1
-
--- Function::is_function_call
-unfoldable pub called_by : Ins → Option Mode
-called_by i = pick (is i.class Bl) (Some Arm) (pick (is i.class Blx1) (Some Thumb) None)

@@ -4,7 +4,7 @@
 ghost use Rattle.std.specs.Prelude.{◌≡◌, ◌<◌, ◌/◌, ◌%◌, ◌^◌, eqb};
 ghost use Rattle.predicates.specs.Predicates.{is_entry_instruction, is_branch, is_off_pc, is_pool_load, offset_of, pool_address};
 ghost use Rattle.predicates.specs.Predicates.{is_bx, is_mov_pc, is_ldm_pc, is_pop_pc, is_branch_back, is_subs_pc_lr, is_ldr_pc, is_eor_pc, is_add_pc};
-ghost use Rattle.predicates.specs.Predicates.{is_return_always, is_adds_four, is_return_after, is_return, is_nop, is_push, is_off_sp, is_stack_store, as_previous, mode_no, called_by};
+ghost use Rattle.predicates.specs.Predicates.{is_return_always, is_adds_four, is_return_after, is_return, is_nop, is_push, is_off_sp, is_stack_store, as_previous, mode_no, is_function_call};
 
 use analysis::pattern::{LR, PC, SP, is_data, is_register, is_when};
 use arm::Ins;
@@ -103,6 +103,18 @@ pub fn pool_address(address: u32, ins: Ins) -> u32
     match address.checked_add_signed(offset_of(ins.addr)) {
         Some(sum) if sum < 0xFFFF_FFF8 => sum / 4 * 4 + 8,
         _ => 0,
+    }
+}
+
+// Function::is_function_call
+#[tactic(auto, unfolding(crate::specs::Predicates::is_function_call))]
+pub fn is_function_call(ins: Ins) -> Option<Mode>
+    ensures { result ≡ is_function_call ins }
+{
+    match ins.class {
+        Class::Bl => Some(Mode::Arm),
+        Class::Blx1 => Some(Mode::Thumb),
+        _ => None,
     }
 }
 
@@ -286,17 +298,5 @@ pub fn as_previous(ins: Ins) -> Previous
         is_branch: is_branch(ins),
         is_conditional: ins.is_conditional(),
         is_adds_four: is_adds_four(ins),
-    }
-}
-
-// Function::is_function_call
-#[tactic(auto, unfolding(crate::specs::Predicates::called_by))]
-pub fn called(ins: Ins) -> Option<Mode>
-    ensures { result ≡ called_by ins }
-{
-    match ins.class {
-        Class::Bl => Some(Mode::Arm),
-        Class::Blx1 => Some(Mode::Thumb),
-        _ => None,
     }
 }

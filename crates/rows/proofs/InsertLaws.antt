@@ -9,17 +9,21 @@ use Rattle.std.specs.Prelude.{Result, Ok, Err}
 use Rattle.std.proofs.lemmas.List.{drop-take}
 use lib.Seq.{slice, paste, take-append-le, drop-append-le, take-append-add, drop-append-add, take-take, take_all}
 use Rattle.base.specs.Choice.{pick}
-use Rattle.rows.specs.Rows.{padded, insert_at, rank, stands, inserted}
-use Rattle.rows.proofs.RowLaws.{insert_at-length, rank-within, stands-within, inserted-is, inserted-length, ascending-kept}
+use Rattle.rows.specs.Rows.{padded, rank, stands, inserted}
+use Rattle.rows.proofs.RowLaws.{insert_at, insert_at-length, rank-within, stands-within, inserted-is, inserted-length, ascending-kept}
 use Rattle.base.specs.declared.refusal.Refusal.{Refusal}
 use Rattle.base.specs.declared.refusal.Refusal.TheVariants.{ListFull}
 use Rattle.rows.specs.declared.Change.{Change}
 use Rattle.rows.specs.declared.Change.TheVariants.{Added, Replaced}
-use Rattle.rows.specs.Map.{key_of, Wide, Map, flat, encode, map_in, Held, holds_at, opened, answer, rows_left, fits, Inserted, Entering}
+use Rattle.rows.specs.Map.{key_of, Wide, Map, flat, encode, map_in, Held, holds_at, answer, rows_left, fits, Inserted, Entering}
 use Rattle.rows.proofs.MapLaws.{row_fits, rows_fit, map-length, flat-length, encode-held, held-map, held-flat}
 use Rattle.rows.proofs.SearchLaws.{stands_at}
 
 -- ---- the numbers that move up
+
+-- the numbers in places f to e moved up by n
+unfoldable pub opened : List ℕ → ℕ → ℕ → ℕ → List ℕ
+opened list f e n = take (f + n) list ++ slice f e list ++ drop (e + n) list
 
 pub moved-up : (l : List ℕ) (f e n : ℕ) → f ≤ e → copy_within l f e (f + n) ≡ opened l f e n
 unfolding opened

@@ -8,9 +8,9 @@ use native.Mathlib.Nat.{mul-le-mul_right}
 use lib.ListN.{replicate-append-replicate}
 use lib.Seq.{take-add}
 use Rattle.std.specs.Simd.{first_chunks}
-use Rattle.rows.specs.Order.{rising, ascending, zeros, cleared}
+use Rattle.rows.specs.Order.{rising, ascending, zeros}
 use Rattle.rows.specs.Rows.{padded}
-use Rattle.rows.proofs.OrderLaws.{zeros-replicate, cleared-padded, padded-cleared}
+use Rattle.rows.proofs.OrderLaws.{cleared, zeros-replicate, cleared-padded, padded-cleared}
 use Rattle.base.proofs.ChoiceLaws.{both_first, both-second}
 use Rattle.rows.specs.Map.{key_of, Wide, Map, flat, encode, map_in, Held, in_order}
 

@@ -10,7 +10,7 @@ use Rattle.std.specs.Prelude.{Bool, ◌&&◌}
 use Rattle.std.specs.List.{list_all, IsAllAdjacentAnswer}
 use Rattle.base.specs.Choice.{pick, both}
 use Rattle.base.proofs.ChoiceLaws.{both_first, both-second}
-use Rattle.rows.specs.Order.{rising, ascending, zeros, cleared}
+use Rattle.rows.specs.Order.{rising, ascending, zeros}
 use Rattle.rows.specs.Rows.{padded}
 
 -- ---- ascending keys
@@ -41,6 +41,10 @@ pub replicate-zeros : (n : ℕ) → zeros (replicate n 0) ≡ true
 unfolding zeros
 replicate-zeros zero = refl
 replicate-zeros (suc n) = rw (eq-eqb 0 0 refl) (replicate-zeros n)
+
+-- a slice has room for the count, and zeros after it
+unfoldable pub cleared : List ℕ → ℕ → Bool
+cleared list count = pick (leb count (length list)) (zeros (drop count list)) false
 
 -- a slice that is cleared past the count is its first numbers, and zeros after them
 pub cleared-padded : (c : List ℕ) (n : ℕ) → cleared c n ≡ true → c ≡ padded (length c) (take n c)

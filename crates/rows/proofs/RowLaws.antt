@@ -5,12 +5,19 @@ use Rattle.base.proofs.Prelude.{zero, zero-le, suc-le-suc, arith, eq-or-lt_of_le
 use Rattle.base.proofs.Prelude.{length-set, set, eq-eqb, ne_eqb, lt-ltb, le-ltb, eqb-true, ltb-true, ltb-false, eqb-false}
 use Rattle.base.specs.Choice.{pick}
 use Rattle.rows.specs.Order.{rising, ascending}
-use Rattle.rows.specs.Rows.{insert_at, rank, stands, lookup, inserted}
+use Rattle.std.proofs.Math.Option.{Option, none}
+use Rattle.rows.specs.Rows.{rank, stands, inserted}
 use Rattle.base.proofs.ChoiceLaws.{both_first, both-second}
 
 -- ---- an entry at a place
 
 module _ {A : Type 0} where
+  -- a stands at place i, and what stood there moves up
+  unfoldable pub insert_at : ℕ → A → List A → List A
+  insert_at zero a xs = a ∷ xs
+  insert_at (suc i) a [] = a ∷ []
+  insert_at (suc i) a (x ∷ xs) = x ∷ insert_at i a xs
+
   pub insert_at-length : (i : ℕ) (a : A) (xs : List A) → length (insert_at i a xs) ≡ suc (length xs)
   unfolding insert_at
   insert_at-length zero a xs = refl
@@ -18,6 +25,12 @@ module _ {A : Type 0} where
   insert_at-length (suc i) a (x ∷ xs) = ap suc (insert_at-length i a xs)
 
 -- ---- the place of an address among entries
+
+module _ {A : Type 0} (key : A → ℕ) where
+  -- the entry with the address x
+  unfoldable pub lookup : ℕ → List A → Option A
+  lookup x [] = none
+  lookup x (b ∷ bs) = pick (eqb (key b) x) (some b) (lookup x bs)
 
 -- not below and not equal
 next : (m n : ℕ) → ltb m n ≡ false → eqb m n ≡ false → n < m

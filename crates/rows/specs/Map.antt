@@ -2,7 +2,6 @@
 -- after them.
 -- Assumes nothing.
 use Rattle.std.specs.Prelude.{◌≡◌, Bool, true, false, List, [], ◌∷◌, ◌++◌, map, ℕ, zero, suc, ◌+◌, ◌*◌, ◌≤◌, ◌<◌, ltb, leb, eqb, length, get_or, take, drop, Option, Some, None, Result, Ok, Err}
-use Rattle.std.proofs.Math.Seq.{slice}
 use Rattle.std.specs.Result.{is_ok}
 use Rattle.base.specs.Choice.{pick}
 use Rattle.rows.specs.Order.{ascending, zeros}
@@ -79,10 +78,6 @@ abbrev pub stands-in : List (List ℕ) → ℕ → Bool
 stands-in m x = stands key_of x m
 
 -- ---- an insert
-
--- the numbers in places f to e moved up by n
-unfoldable pub opened : List ℕ → ℕ → ℕ → ℕ → List ℕ
-opened list f e n = take (f + n) list ++ slice f e list ++ drop (e + n) list
 
 -- a row of a map's width in so many places: held it is replaced; else it is added where its places are free
 unfoldable pub answer : ℕ → ℕ → List ℕ → List (List ℕ) → Result Change Refusal

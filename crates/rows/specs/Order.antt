@@ -1,6 +1,6 @@
 -- Order and zeros, as tests.
 -- Assumes nothing.
-use Rattle.std.specs.Prelude.{Bool, true, false, List, [], ◌∷◌, ℕ, ltb, leb, eqb, length, drop}
+use Rattle.std.specs.Prelude.{Bool, true, false, List, [], ◌∷◌, ℕ, ltb, eqb}
 use Rattle.base.specs.Choice.{pick}
 
 -- the keys rise strictly, from above k on
@@ -15,7 +15,3 @@ ascending (x ∷ xs) = rising x xs
 unfoldable pub zeros : List ℕ → Bool
 zeros [] = true
 zeros (x ∷ xs) = pick (eqb x 0) (zeros xs) false
-
--- a slice has room for the count, and zeros after it
-unfoldable pub cleared : List ℕ → ℕ → Bool
-cleared list count = pick (leb count (length list)) (zeros (drop count list)) false

@@ -1,19 +1,11 @@
 -- Lists of entries, over any type of entry. An entry's key is its address.
 -- Assumes nothing.
-use Rattle.std.specs.Prelude.{Bool, false, List, [], ◌∷◌, ◌++◌, ℕ, zero, suc, ◌-◌, ltb, eqb, length, replicate}
-use Rattle.std.proofs.Math.Option.{Option, none, some}
+use Rattle.std.specs.Prelude.{Bool, false, List, [], ◌∷◌, ◌++◌, ℕ, suc, ◌-◌, ltb, eqb, length, replicate}
 use Rattle.base.specs.Choice.{pick}
 
 -- xs and zeros after it, n places in all
 unfoldable pub padded : ℕ → List ℕ → List ℕ
 padded n xs = xs ++ replicate (n - length xs) 0
-
-module _ {A : Type 0} where
-  -- a stands at place i, and what stood there moves up
-  unfoldable pub insert_at : ℕ → A → List A → List A
-  insert_at zero a xs = a ∷ xs
-  insert_at (suc i) a [] = a ∷ []
-  insert_at (suc i) a (x ∷ xs) = x ∷ insert_at i a xs
 
 module _ {A : Type 0} (key : A → ℕ) where
   -- how many entries stand before the address x
@@ -25,11 +17,6 @@ module _ {A : Type 0} (key : A → ℕ) where
   unfoldable pub stands : ℕ → List A → Bool
   stands x [] = false
   stands x (b ∷ bs) = pick (ltb (key b) x) (stands x bs) (eqb (key b) x)
-
-  -- the entry with the address x
-  unfoldable pub lookup : ℕ → List A → Option A
-  lookup x [] = none
-  lookup x (b ∷ bs) = pick (eqb (key b) x) (some b) (lookup x bs)
 
   -- a in its place: for the entry with its address, or before the first that has a higher one
   unfoldable pub inserted : A → List A → List A

@@ -24,7 +24,7 @@ use Rattle.context.specs.Context.{pool_to, defining, jump_table_to, inline_table
 use Rattle.context.specs.Context.{enter_label, enter_jump_table, enter_inline_table, enter_call, label_row, pool_row, table_row, call_row}
 use Rattle.predicates.specs.declared.Mode.{Mode}
 use Rattle.predicates.specs.declared.Mode.TheVariants.{Arm, Thumb}
-use Rattle.predicates.specs.Predicates.{is_branch, is_bx, is_entry_instruction, is_pool_load, pool_address, called_by}
+use Rattle.predicates.specs.Predicates.{is_branch, is_bx, is_entry_instruction, is_pool_load, pool_address, is_function_call}
 use Rattle.registers.specs.Registers.{column_forgotten, forgotten, holding, source_of}
 use Rattle.base.proofs.ChoiceLaws.{both-second}
 use Rattle.rows.specs.Rows.{inserted}
@@ -274,7 +274,7 @@ module _ (g : Given) (c d : List ℕ) (a : ℕ) where
 
     pub function-call : (word : ℕ) → Blind g c d a (function_call i word)
     unfolding function_call
-    function-call word x t s = called-as word (called_by i) x t s
+    function-call word x t s = called-as word (is_function_call i) x t s
 
     pub check-defined : (returns : Bool) → Blind g c d a (check_defined i returns)
     unfolding check_defined

@@ -17,8 +17,8 @@ by_number i word Thumb x = refl
 
 pub returns-in-Some : goal.returns-in-Some
 unfolding function_call
-returns-in-Some c = λ l h. rw (← c.called.ensures, c.in-Some.is) (rw (by_number c.args.parsed.ins c.args.parsed.word c.in-Some.mode) at (c.call_to.ensures l h))
+returns-in-Some c = λ l h. rw (← c.is_function_call.ensures, c.in-Some.is) (rw (by_number c.args.parsed.ins c.args.parsed.word c.in-Some.mode) at (c.call_to.ensures l h))
 
 pub returns-in-None : goal.returns-in-None
 unfolding function_call
-returns-in-None c = λ l h. rw (c.on.ensures, ← c.called.ensures, c.in-None.is) (settled (record { stays = refl; call = refl; holds = h; says = refl }))
+returns-in-None c = λ l h. rw (c.on.ensures, ← c.is_function_call.ensures, c.in-None.is) (settled (record { stays = refl; call = refl; holds = h; says = refl }))
