@@ -1,4 +1,4 @@
-/* Cugbejin for C: one function's walk, from an accepted start to its record or a refusal, in one call.
+/* Cugbejin for C: one function's walk, from an accepted start to its record or a refusal, in one call; and the same with the function's tag.
  * Link crates/cugbejin_c/out/libcugbejin_c.a, which `rt lib` writes there. docs/PROMISES.md says which definition each result equals. */
 #ifndef CUGBEJIN_H
 #define CUGBEJIN_H
@@ -27,7 +27,14 @@ struct cugbejin_answer {
     uint64_t calls;
 };
 
-/* Refusals; docs/REFUSALS.md has an example of each. After 1 to 4 every list is as it was; after 5 to 14 every place of every list is 0. */
+/* A function's tag: its instructions' bytes times 100, divided by the record's length, which is end - start. */
+struct cugbejin_percent {
+    uint64_t quotient;
+    uint64_t remainder; /* below the length; both 0 where there is no tag */
+};
+
+/* Refusals; docs/REFUSALS.md has an example of each. After 1 to 4 every list is as it was; after 5 to 14 every place of every list is 0. 17 is of
+ * the tag alone: the function is accepted all the same, and the lists hold its entries. */
 enum cugbejin_refusal {
     CUGBEJIN_WINDOW = 1,             /* base outside 0x01FF8000 to 0x03000000, code end or module end above 0x03000000, or module start above its
                                         end */
@@ -43,7 +50,8 @@ enum cugbejin_refusal {
     CUGBEJIN_UNDEFINED_REGISTER = 11, /* a register used before it has a value, where that is checked */
     CUGBEJIN_TABLE_OUTSIDE = 12,     /* a table's size or end above 0xFFFFFFFF, or an inline table's address below 0 */
     CUGBEJIN_LIST_FULL = 13,         /* a new entry where its list is full */
-    CUGBEJIN_NO_EPILOGUE = 14        /* code ran out before the function ended, or its end is above the module's */
+    CUGBEJIN_NO_EPILOGUE = 14,       /* code ran out before the function ended, or its end is above the module's */
+    CUGBEJIN_EMPTY_RECORD = 17       /* no tag: the record's end is not above its start, as a known end may have it */
 };
 
 /* The lists that a walk fills: a label is an address, and the others have rows. A list's rows stand one after another, ascending by address,
@@ -88,6 +96,19 @@ uint32_t cugbejin_run(
     uint32_t *calls, size_t calls_length,
     struct cugbejin_answer *answer);
 
+/* The same with the tag, which `cugbejin_walk_tag` calls. */
+uint32_t cugbejin_tag(
+    uint32_t base, uint32_t module_start, uint32_t module_end, uint32_t start,
+    uint32_t known, uint32_t known_end, uint32_t check,
+    const uint8_t *code, size_t code_length,
+    const uint32_t *starts, size_t starts_length,
+    uint32_t *labels, size_t labels_length,
+    uint32_t *pools, size_t pools_length,
+    uint32_t *jump_tables, size_t jump_tables_length,
+    uint32_t *inline_tables, size_t inline_tables_length,
+    uint32_t *calls, size_t calls_length,
+    struct cugbejin_answer *answer, struct cugbejin_percent *percent);
+
 static_assert(sizeof(struct cugbejin_pool) == 3 * sizeof(uint32_t), "a pool is three numbers");
 static_assert(sizeof(struct cugbejin_table) == 2 * sizeof(uint32_t), "a table is two numbers");
 static_assert(sizeof(struct cugbejin_call) == 4 * sizeof(uint32_t), "a call is four numbers");
@@ -123,6 +144,29 @@ static inline uint32_t cugbejin_walk(
         lists->inline_tables ? (uint32_t *)lists->inline_tables : &empty, 2 * lists->inline_table_rows,
         lists->calls ? (uint32_t *)lists->calls : &empty, 4 * lists->call_rows,
         answer);
+}
+
+/* Walks one ARM function as `cugbejin_walk` does, to the same answer and lists, and fills *percent with its tag. Returns 0 where there is one, else
+ * the number of the walk's refusal, or 17 where the function is accepted and has no tag: *answer then has number 0, and the record and counts.
+ * The percent must not overlap the lists, the answer, code or starts either. */
+static inline uint32_t cugbejin_walk_tag(
+    uint32_t base, uint32_t module_start, uint32_t module_end, uint32_t start,
+    uint32_t known, uint32_t known_end, uint32_t check,
+    const uint8_t *code, size_t code_length,
+    const uint32_t *starts, size_t starts_length,
+    const struct cugbejin_lists *lists, struct cugbejin_answer *answer, struct cugbejin_percent *percent)
+{
+    uint32_t empty = 0;
+    return cugbejin_tag(
+        base, module_start, module_end, start, known, known_end, check,
+        code ? code : (const uint8_t *)&empty, code_length,
+        starts ? starts : &empty, starts_length,
+        lists->labels ? lists->labels : &empty, lists->label_rows,
+        lists->pools ? (uint32_t *)lists->pools : &empty, 3 * lists->pool_rows,
+        lists->jump_tables ? (uint32_t *)lists->jump_tables : &empty, 2 * lists->jump_table_rows,
+        lists->inline_tables ? (uint32_t *)lists->inline_tables : &empty, 2 * lists->inline_table_rows,
+        lists->calls ? (uint32_t *)lists->calls : &empty, 4 * lists->call_rows,
+        answer, percent);
 }
 
 #ifdef __cplusplus

@@ -1,16 +1,19 @@
 #!/usr/bin/env python3
-"""Compares fresh requests with the original, call by call: the answer, every list after each step, and the register of 11.
+"""Compares fresh requests with the original, call by call: the answer, every list after each step, the register of 11, and the tag.
 
 Usage: fresh.py WALK CRATES COUNT SEED
 
-WALK is the path of the built oracle, CRATES the folder of this repository's crates, where tools/build has built `walks`, `listings` and `listfn`.
+WALK is the path of the built oracle, CRATES the folder of this repository's crates, where tools/build has built `walks`, `listings`, `listfn`, `tags`
+and `tagfn`.
 Of the requests three in ten are rich functions (rich.py), about as many are planned or rich ones with words and options changed, and the others
 are code and options at random. Each runs in `walks` with as many places as the lists can have, and once more with few and some numbers left over
 behind them; what a list without room must answer, 13, is worked out from the original's own lists. Each that has no existing starts, which the
 listing program does not know, goes through `listings` too, and the first ten of each batch through `listfn`: they must print the end of the
-original's listing. Prints how many agreed and the first that did not, and fails if any did not.
+original's listing. `tags` must print the tag of each request as the oracle works it out from the original's steps, and `tagfn` that of the first ten:
+without the existing starts, which these do not know either. Prints how many agreed and the first that did not, and fails if any did not.
 """
 import collections
+import copy
 import pathlib
 import random
 import re
@@ -92,20 +95,40 @@ def built(crates, name):
     return crates / name / 'out' / name
 
 
-def listed(crates, requests):
-    """What the listing program prints for each request, or None for one with existing starts: by `listings`, and for the first ones by `listfn` too, which
-    must be the same."""
-    inputs = [request.pack() for request in requests if not request.existing]
+def by_many(crates, many, one, inputs, begins):
+    """What a program prints for each input of another one, where each text begins with one of these words; the other must print the same for the
+    first inputs."""
     framed = b''.join(struct.pack('>I', len(data)) + data for data in inputs)
-    said = subprocess.run([built(crates, 'listings')], input=framed, capture_output=True, check=True).stdout.decode()
-    texts = [text.strip('\n') for text in re.split(r'^(?=function |refused )', said, flags=re.M)[1:]]
+    said = subprocess.run([built(crates, many)], input=framed, capture_output=True, check=True).stdout.decode()
+    texts = [text.strip('\n') for text in re.split(rf'^(?={begins})', said, flags=re.M)[1:]]
     assert len(texts) == len(inputs)
     for data, text in list(zip(inputs, texts))[:LISTFN]:
-        alone = listings(built(crates, 'listfn'), data)
+        alone = listings(built(crates, one), data)
         if alone != [text]:
-            sys.exit(f'listfn, request {data.hex()}\nlistings:\n{text}\nlistfn:\n{alone}')
-    left = iter(texts)
+            sys.exit(f'{one}, request {data.hex()}\n{many}:\n{text}\n{one}:\n{alone}')
+    return texts
+
+
+def listed(crates, requests):
+    """What the listing program prints for each request, or None for one with existing starts."""
+    inputs = [request.pack() for request in requests if not request.existing]
+    left = iter(by_many(crates, 'listings', 'listfn', inputs, 'function |refused '))
     return [None if request.existing else next(left) for request in requests]
+
+
+def without_starts(request):
+    bare = copy.copy(request)
+    bare.existing = []
+    return bare
+
+
+def tagged(oracle, crates, requests):
+    """Each request without its existing starts, and its tag: the oracle's, from the original's steps, and what the tag program prints."""
+    bare = [without_starts(request) for request in requests]
+    inputs = [request.pack() for request in bare]
+    expected = [re.sub(r'^panic (\d+ \w{8}) .*', r'refused \1', tag) for tag in listings(oracle, b''.join(inputs), 'tag')]
+    assert len(expected) == len(inputs)
+    return zip(bare, expected, by_many(crates, 'tags', 'tagfn', inputs, 'tag |refused '))
 
 
 def end_of(listing):
@@ -119,11 +142,12 @@ class Tally:
     agree, with all places or with few."""
 
     def __init__(self):
-        self.ends, self.few = collections.Counter(), collections.Counter()
+        self.ends, self.few, self.tags = collections.Counter(), collections.Counter(), collections.Counter()
         self.rich = self.by_one = self.listed = self.left_out = self.different = 0
+        self.tags_different = 0
 
     def agree(self, name, expected, given, request, places):
-        if expected != given and not self.different:
+        if expected != given and not self.different and not self.tags_different:
             print(f'{name}, places {places}, request {request.pack().hex()}\nthe original:\n{expected}\nhere:\n{given}')
         return expected == given
 
@@ -147,6 +171,18 @@ class Tally:
             same &= self.agree('listings', end_of(expected), listing, request, MOST)
         self.different += not same
 
+    def add_tag(self, request, expected, given):
+        if expected.startswith('outside') or not walk.comparable(request, expected):
+            self.tags['left out'] += 1
+            return
+        word, *numbers = expected.split()
+        if word == 'refused':
+            self.tags['17' if numbers[0] == '17' else 'refused walks'] += 1
+        else:
+            share = tuple(map(int, numbers))
+            self.tags['above 100' if share > (100, 0) else '100' if share == (100, 0) else 'below 100'] += 1
+        self.tags_different += not self.agree('tags', expected, given, request, MOST)
+
 
 def main():
     oracle, crates, count, seed = sys.argv[1], pathlib.Path(sys.argv[2]), int(sys.argv[3]), int(sys.argv[4])
@@ -162,11 +198,15 @@ def main():
         assert len(expected) == len(given) == len(few) == len(requests)
         for parts in zip(requests, expected, given, few, map(room, places, more), listed(crates, requests)):
             tally.add(*parts)
+        for parts in tagged(oracle, crates, requests):
+            tally.add_tag(*parts)
     compared = sum(tally.ends.values())
     print(f'{compared - tally.different} agreed, {tally.different} did not, {tally.left_out} left out')
     print('ends:', dict(sorted(tally.ends.items(), key=str)), f'{tally.rich} accepted with rich lists, {tally.by_one} entered and left by one register')
     print('with few places:', dict(sorted(tally.few.items())), f'listed: {tally.listed}')
-    sys.exit(tally.different > 0)
+    tags = sum(tally.tags.values()) - tally.tags['left out']
+    print(f'tags: {tags - tally.tags_different} agreed, {tally.tags_different} did not:', dict(sorted(tally.tags.items())))
+    sys.exit(tally.different + tally.tags_different > 0)
 
 
 if __name__ == '__main__':

@@ -21,6 +21,7 @@ pub enum Refusal {
     NoEpilogue = 14,
     NotDone = 15,
     BadRequest = 16,
+    EmptyRecord = 17,
 }
 
 impl From<Refusal> for u8 {

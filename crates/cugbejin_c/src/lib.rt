@@ -1,16 +1,18 @@
-// The whole walk for programs in other languages: a slice is a pointer and a length, and an answer is twelve numbers. A list's rows stand one after
-// another, so that a host may lend an array of structs of 32-bit numbers.
+// The whole walk for programs in other languages, also with its tag: a slice is a pointer and a length, an answer is twelve numbers, and a tag is two. A
+// list's rows stand one after another, so that a host may lend an array of structs of 32-bit numbers.
 #![tactic(auto)]
 
 ghost use Rattle.std.specs.Prelude.{◌≡◌};
 ghost use Rattle.context.specs.Lists.{lists};
 ghost use Rattle.context.specs.Turn.{no_maps, counts_of};
+ghost use Rattle.tag.specs.Bytes.{bytes_of};
 ghost use Rattle.whole.specs.Whole.{run};
-ghost use Rattle.cugbejin_c.specs.Numbers.{known_from, options_from, no_record, record_of, numbers_of, AnsweredIn};
+ghost use Rattle.cugbejin_c.specs.Numbers.{known_from, options_from, no_record, record_of, numbers_of, tag_number, tag_numbers, AnsweredIn, TaggedIn};
 
 use context::Module;
 use lists::Lists;
 use outcome::no_counts;
+use tag::Tag;
 use walk::{Answer, Counts, Options, Record};
 
 // C's own form of an end that may be missing.
@@ -48,9 +50,10 @@ fn record_of(answer: Answer) -> Record
     }
 }
 
-fn numbers_of(answer: Answer, found: Record, counts: Counts) -> [u64; 12]
-    ensures { result ≡ numbers_of answer found counts }
+fn numbers_of(answer: Answer, counts: Counts) -> [u64; 12]
+    ensures { result ≡ numbers_of answer counts }
 {
+    let found = record_of(answer);
     [
         answers::number(answer) as u64,
         answers::address(answer) as u64,
@@ -65,6 +68,28 @@ fn numbers_of(answer: Answer, found: Record, counts: Counts) -> [u64; 12]
         counts.inline_tables as u64,
         counts.calls as u64,
     ]
+}
+
+// The number of a tag that is refused, 0 for none.
+fn tag_number(tag: Tag) -> u8
+    ensures { result ≡ tag_number tag }
+{
+    match tag {
+        Tag::Percent { .. } => 0,
+        Tag::Refused { refusal, .. } => u8::from(refusal),
+    }
+}
+
+fn tag_numbers(tag: Tag) -> [u64; 2]
+    ensures { result ≡ tag_numbers tag }
+{
+    match tag {
+        Tag::Percent {
+            quotient,
+            remainder,
+        } => [quotient, remainder],
+        Tag::Refused { .. } => [0, 0],
+    }
 }
 
 // 0, or the number of a refusal. `answer` then holds that number, the refusal's address and register, the record's start, end, first instruction and
@@ -103,6 +128,48 @@ pub extern "C" fn cugbejin_run(
         calls,
     };
     let ran = whole::run(module, start, &mut lists, no_counts());
-    *answer = numbers_of(ran.answer, record_of(ran.answer), ran.walk.counts);
+    *answer = numbers_of(ran.answer, ran.walk.counts);
     answers::number(ran.answer) as u32
+}
+
+// The same walk with its tag; `answer` then holds what `cugbejin_run` leaves there. 0 where there is a tag, and `percent` holds its quotient and
+// remainder. Else zeros, and the number of the walk's refusal, or 17 where it found a record that has no tag.
+#[unsafe(no_mangle)]
+pub extern "C" fn cugbejin_tag(
+    base: u32,
+    module_start: u32,
+    module_end: u32,
+    start: u32,
+    known: u32,
+    known_end: u32,
+    check: u32,
+    code: &[u8],
+    starts: &[u32],
+    labels: &mut [u32],
+    pools: &mut [u32],
+    jump_tables: &mut [u32],
+    inline_tables: &mut [u32],
+    calls: &mut [u32],
+    answer: &mut [u64; 12],
+    percent: &mut [u64; 2],
+) -> u32
+    ensures { TaggedIn result answer.new percent.new (lists labels.new pools.new jump_tables.new inline_tables.new calls.new) (run (options_from base module_start module_end known known_end check) code.now starts.now start (counts_of no_maps) (lists labels.old pools.old jump_tables.old inline_tables.old calls.old)) (bytes_of (options_from base module_start module_end known known_end check) code.now starts.now start (counts_of no_maps) (lists labels.old pools.old jump_tables.old inline_tables.old calls.old)) }
+{
+    let module = Module {
+        options: options_from(base, module_start, module_end, known, known_end, check),
+        code,
+        starts,
+    };
+    let mut lists = Lists {
+        labels,
+        pools,
+        jump_tables,
+        inline_tables,
+        calls,
+    };
+    let tagged = tag::tag_walk(module, start, &mut lists, no_counts());
+    let ran = tagged.answered;
+    *answer = numbers_of(ran.answer, ran.walk.counts);
+    *percent = tag_numbers(tagged.tag);
+    tag_number(tagged.tag) as u32
 }

@@ -95,7 +95,7 @@ fn put_record(writer: &mut Writer<'_>, r: Record)
     writer.put_byte(b'\n');
 }
 
-fn put_refusal(writer: &mut Writer<'_>, refusal: Refusal, address: u32)
+pub fn put_refusal(writer: &mut Writer<'_>, refusal: Refusal, address: u32)
     requires { HasRoom writer.old 45 }
     ensures { Wrote writer.old writer.new (refusal_line (refusal_no refusal) address) }
 {

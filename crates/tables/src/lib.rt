@@ -64,7 +64,7 @@ fn is_within(start: u32, size: u32, address: u32) -> bool
 }
 
 // The first table that holds the address.
-fn inline_table_at(inline_tables: &Tables, address: u32) -> Option<[u32; TABLE_ROW]>
+pub fn inline_table_at(inline_tables: &Tables, address: u32) -> Option<[u32; TABLE_ROW]>
     ensures { Finds address inline_tables.now.rows.now result }
 {
     inline_tables

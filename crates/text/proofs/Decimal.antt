@@ -2,7 +2,7 @@
 -- Assumes nothing.
 use Rattle.base.proofs.Prelude.{◌∙◌, refl, ◌≡◌, subst, false, true, Bool, List, [], ◌∷◌, ◌≤◌, ℕ, ◌+◌, ◌<◌, ◌-◌, suc, zero, ◌^◌, ◌/◌, ◌%◌, zero-le}
 use Rattle.base.proofs.Prelude.{arith, add-zero, add-one, max, ◌*◌, eqb, length, ne_eqb, lt-ltb}
-use native.Mathlib.Nat.{add-suc, one-mul, one-le-pow, zero-lt-suc, lt_of_not-le, lt_of_lt_of_le, pow-le-pow_right, pow-succ', div-eq_of_lt, div-lt_iff_lt-mul, le-div_iff_mul-le, mod-eq_of_lt}
+use native.Mathlib.Nat.{add-suc, one-mul, one-le-pow, zero-lt-suc, lt_of_lt_of_le, pow-le-pow_right, pow-succ', div-eq_of_lt, div-lt_iff_lt-mul, le-div_iff_mul-le, mod-eq_of_lt}
 use Rattle.text.specs.Hex.{hex_digit, digits}
 use Rattle.base.specs.Choice.{pick}
 use Rattle.text.specs.Decimal.{strip, decimal}
@@ -74,6 +74,11 @@ strip-length [] = zero-le
 strip-length (d ∷ []) = omega arith
 strip-length (d ∷ e ∷ t) =
     shorter (eqb d 48) (strip (e ∷ t)) (d ∷ e ∷ t) (let less = strip-length (e ∷ t) in omega arith)
+
+-- no number takes more than 20
+pub decimal-short : (v : ℕ) → length (decimal v) ≤ 20
+unfolding decimal
+decimal-short v = rw digits-length at (strip-length (digits 10 20 v))
 
 -- a number below 10 ^ n takes at most n bytes
 pub decimal-length : (n v : ℕ) → 0 < n → n ≤ 20 → v < 10 ^ n → length (decimal v) ≤ n

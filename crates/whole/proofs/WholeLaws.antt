@@ -33,7 +33,7 @@ module _ (o : Options) (start : ℕ) (code starts : List ℕ) (n : Counts) (l : 
   abbrev pub opened : After
   opened = begin o start code starts n l
 
-  abbrev fresh : After
+  abbrev pub fresh : After
   fresh = record { walk = begun start (counts_of no_maps); lists = zeroed l; answer = Going }
 
   -- a walk that has begun, and one turn more from there than the code has bytes
@@ -43,7 +43,7 @@ module _ (o : Options) (start : ℕ) (code starts : List ℕ) (n : Counts) (l : 
   abbrev pub last : Turned
   last = turns_from (given_by o code starts (zeroed l)) (suc (length code)) first
 
-  first-going : is_going first.walk.result ≡ true
+  pub first-going : is_going first.walk.result ≡ true
   unfolding begun
   first-going = refl
 
@@ -69,11 +69,11 @@ module _ (o : Options) (start : ℕ) (code starts : List ℕ) (n : Counts) (l : 
         step (Ok t) h k = h
         step (Err refusal) h k = absurd (let z : ◌≡◌ {A = ℕ} 0 1 = cc in omega arith)
 
-    opened-fresh : opened ≡ fresh
+    pub opened-fresh : opened ≡ fresh
     unfolding begin
     opened-fresh = rw passed-begin
 
-    fresh-number : check_at o code starts fresh.walk fresh.lists ≡ Ok tt
+    pub fresh-number : check_at o code starts fresh.walk fresh.lists ≡ Ok tt
     fresh-number =
         passed-number o code starts fresh.walk fresh.lists
         (begun-passed o start code starts l (number-begins o start code starts passed-begin))
@@ -105,16 +105,16 @@ module _ (given : Module) (start : ℕ) (n : Counts) (l : Lists) (b : Answered) 
     run-refused off = subst⁻¹ (Called b m) (run-begin o start code starts n l (ap is_going (sym opens.answers) ∙ off)) opens
 
     module _ (going : is_going b.answer ≡ true) where
-      on : is_going (opened o start code starts n l).answer ≡ true
+      pub on : is_going (opened o start code starts n l).answer ≡ true
       on = ap is_going (sym opens.answers) ∙ going
 
       begins : opened o start code starts n l ≡ fresh o start code starts n l
       begins = opened-fresh o start code starts n l on
 
-      walks : b.walk ≡ begun start (counts_of no_maps)
+      pub walks : b.walk ≡ begun start (counts_of no_maps)
       walks = opens.walks ∙ ap (λ (x : After). x.walk) begins
 
-      holds : m ≡ zeroed l
+      pub holds : m ≡ zeroed l
       holds = opens.holds ∙ ap (λ (x : After). x.lists) begins
 
       -- what a turn asks for

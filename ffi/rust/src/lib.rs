@@ -1,4 +1,4 @@
-//! One function's walk, from an accepted start to its record or a refusal: a safe call of the proved `cugbejin_run`.
+//! One function's walk, from an accepted start to its record or a refusal, and its tag: safe calls of the proved `cugbejin_run` and `cugbejin_tag`.
 //! Every input gets an answer; `cugbejin.h` and docs/REFUSALS.md have the refusals.
 
 /// The host's choices for a walk.
@@ -82,6 +82,27 @@ pub struct Refusal {
     pub register: u32,
 }
 
+/// A function's tag: its instructions' bytes × 100, divided by the record's length, which is `end - start`.
+#[repr(C)]
+#[derive(Clone, Copy, Debug, Default, PartialEq, Eq)]
+pub struct Percent {
+    pub quotient: u64,
+    /// Below the length.
+    pub remainder: u64,
+}
+
+/// Why there is no tag.
+#[derive(Clone, Copy, Debug, PartialEq, Eq)]
+pub enum TagError {
+    /// The walk was refused.
+    Refused(Refusal),
+    /// Number 17: the function is accepted, but its end is not above its start, as a known end may have it. The lists hold its entries.
+    EmptyRecord(Function),
+}
+
+/// What is returned for an accepted function without a tag.
+const EMPTY_RECORD: u32 = 17;
+
 /// As `struct cugbejin_answer`.
 #[repr(C)]
 #[derive(Default)]
@@ -114,6 +135,20 @@ unsafe extern "C" {
         calls: *mut u32, calls_length: usize,
         answer: *mut Answer,
     ) -> u32;
+
+    #[allow(clippy::too_many_arguments)]
+    fn cugbejin_tag(
+        base: u32, module_start: u32, module_end: u32, start: u32, known: u32, known_end: u32, check: u32,
+        code: *const u8, code_length: usize,
+        starts: *const u32, starts_length: usize,
+        labels: *mut u32, labels_length: usize,
+        pools: *mut u32, pools_length: usize,
+        jump_tables: *mut u32, jump_tables_length: usize,
+        inline_tables: *mut u32, inline_tables_length: usize,
+        calls: *mut u32, calls_length: usize,
+        answer: *mut Answer,
+        percent: *mut Percent,
+    ) -> u32;
 }
 
 /// A list's numbers, one row after another, and how many: a row is nothing but numbers of 32 bits.
@@ -121,32 +156,51 @@ fn numbers<Row>(rows: &mut [Row]) -> (*mut u32, usize) {
     (rows.as_mut_ptr().cast(), size_of_val(rows) / size_of::<u32>())
 }
 
+/// The number that a proved function returns for a walk. Behind the walk stand the places for what it tells.
+macro_rules! number {
+    ($function:ident, $options:ident, $start:ident, $code:ident, $starts:ident, $lists:ident, $($told:ident),+) => {{
+        let (labels, labels_length) = numbers($lists.labels);
+        let (pools, pools_length) = numbers($lists.pools);
+        let (jump_tables, jump_tables_length) = numbers($lists.jump_tables);
+        let (inline_tables, inline_tables_length) = numbers($lists.inline_tables);
+        let (calls, calls_length) = numbers($lists.calls);
+        // SAFETY: each pointer and length is that of a slice, so it is no null pointer, and no two slices that are written overlap. A row is
+        // `repr(C)` and of `u32` alone, so it is as aligned as one and has no padding. What is told goes into locals of the caller.
+        unsafe {
+            $function(
+                $options.base, $options.module_start, $options.module_end, $start,
+                u32::from($options.known_end.is_some()), $options.known_end.unwrap_or(0), u32::from($options.check),
+                $code.as_ptr(), $code.len(),
+                $starts.as_ptr(), $starts.len(),
+                labels, labels_length,
+                pools, pools_length,
+                jump_tables, jump_tables_length,
+                inline_tables, inline_tables_length,
+                calls, calls_length,
+                $(&mut $told),+
+            )
+        }
+    }};
+}
+
 /// Walks one ARM function from `start`. `starts` are those of other functions, strictly ascending.
-#[rustfmt::skip]
 pub fn run(options: Options, start: u32, code: &[u8], starts: &[u32], lists: &mut Lists) -> Result<Function, Refusal> {
-    let (labels, labels_length) = numbers(lists.labels);
-    let (pools, pools_length) = numbers(lists.pools);
-    let (jump_tables, jump_tables_length) = numbers(lists.jump_tables);
-    let (inline_tables, inline_tables_length) = numbers(lists.inline_tables);
-    let (calls, calls_length) = numbers(lists.calls);
     let mut answer = Answer::default();
-    // SAFETY: each pointer and length is that of a slice, so it is no null pointer, and no two slices that are written overlap. A row is
-    // `repr(C)` and of `u32` alone, so it is as aligned as one and has no padding.
-    let number = unsafe {
-        cugbejin_run(
-            options.base, options.module_start, options.module_end, start,
-            u32::from(options.known_end.is_some()), options.known_end.unwrap_or(0), u32::from(options.check),
-            code.as_ptr(), code.len(),
-            starts.as_ptr(), starts.len(),
-            labels, labels_length,
-            pools, pools_length,
-            jump_tables, jump_tables_length,
-            inline_tables, inline_tables_length,
-            calls, calls_length,
-            &mut answer,
-        )
-    };
-    if number == 0 { Ok(answer.function()) } else { Err(answer.refusal()) }
+    match number!(cugbejin_run, options, start, code, starts, lists, answer) {
+        0 => Ok(answer.function()),
+        _ => Err(answer.refusal()),
+    }
+}
+
+/// Walks one ARM function as `run` does, to the same function or refusal and the same lists, and gives its tag.
+pub fn tag(options: Options, start: u32, code: &[u8], starts: &[u32], lists: &mut Lists) -> Result<(Function, Percent), TagError> {
+    let mut answer = Answer::default();
+    let mut percent = Percent::default();
+    match number!(cugbejin_tag, options, start, code, starts, lists, answer, percent) {
+        0 => Ok((answer.function(), percent)),
+        EMPTY_RECORD => Err(TagError::EmptyRecord(answer.function())),
+        _ => Err(TagError::Refused(answer.refusal())),
+    }
 }
 
 // Each number was widened from 32 bits or fewer, and a count from a usize.

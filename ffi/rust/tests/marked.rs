@@ -1,5 +1,6 @@
-//! Walks document 01's marked runs C1 to C12, and its examples of the refusals 1 to 4 and 13. What is expected is typed from 01's tables.
-use cugbejin::{Call, Counts, Function, Lists, Options, Pool, Refusal, Table, run};
+//! Walks document 01's marked runs C1 to C12, and its examples of the refusals 1 to 4 and 13. What is expected is typed from 01's tables. Each is
+//! walked once more with its tag; the tags are worked out by hand: 100 for each byte of an instruction, divided by the record's length.
+use cugbejin::{Call, Counts, Function, Lists, Options, Percent, Pool, Refusal, Table, TagError, run, tag};
 
 const BASE: u32 = 0x0200_0000;
 const LOW: u32 = 0x01FF_8000;
@@ -12,6 +13,7 @@ const C8: &[u32] = &[0xE350_0002, 0x908F_F100, 0xEA00_0002, 0xEA00_0001, 0xEA00_
 const C12: &[u32] = &[0xE1A0_0004, 0xE12F_FF1E];
 
 type Answer = Result<Function, Refusal>;
+type Tag = Result<(Function, Percent), TagError>;
 
 #[derive(Clone, Copy, Debug, Default, PartialEq)]
 struct Rows {
@@ -51,11 +53,27 @@ fn options(base: u32, words: &[u32]) -> Options {
     Options { base, module_start: base, module_end: base + 4 * words.len() as u32, known_end: None, check: false }
 }
 
+fn bytes(words: &[u32]) -> Vec<u8> {
+    words.iter().flat_map(|word| word.to_le_bytes()).collect()
+}
+
+/// The walk with its tag comes to the same.
 fn walk(options: Options, start: u32, words: &[u32], starts: &[u32], label_places: usize) -> (Answer, Rows) {
-    let code: Vec<u8> = words.iter().flat_map(|word| word.to_le_bytes()).collect();
+    let code = bytes(words);
     let mut rows = Rows::before();
     let answer = run(options, start, &code, starts, &mut rows.lend(label_places));
+    let mut tag_rows = Rows::before();
+    let tag = tag(options, start, &code, starts, &mut tag_rows.lend(label_places));
+    assert_eq!((untagged(tag), tag_rows), (answer, rows));
     (answer, rows)
+}
+
+/// The walk's answer in that of its tag.
+fn untagged(tag: Tag) -> Answer {
+    match tag {
+        Ok((function, _)) | Err(TagError::EmptyRecord(function)) => Ok(function),
+        Err(TagError::Refused(refusal)) => Err(refusal),
+    }
 }
 
 /// From the base, with no other starts.
@@ -162,6 +180,40 @@ fn c11_a_known_end() {
 fn c12_an_undefined_register() {
     assert_eq!(whole(options(BASE, C12), C12), bare(0x08, 0x08));
     assert_eq!(whole(Options { check: true, ..options(BASE, C12) }, C12), refused(11, BASE, 4));
+}
+
+fn tagged(options: Options, words: &[u32]) -> Tag {
+    tag(options, options.base, &bytes(words), &[], &mut Rows::before().lend(PLACES))
+}
+
+/// What a tag says of C3 with a known end.
+fn tagged_to(end: u32) -> Tag {
+    tagged(Options { module_end: BASE + 0x08, known_end: Some(end), ..options(BASE, C3) }, C3)
+}
+
+#[test]
+fn tags() {
+    let pool = Function { counts: Counts { pools: 1, ..function(0x0C, 0x08).counts }, ..function(0x0C, 0x08) };
+    assert_eq!(tagged(options(BASE, C1), C1), Ok((pool, Percent { quotient: 66, remainder: 8 })));
+    assert_eq!(tagged(options(BASE, C3), C3), Ok((function(0x04, 0x04), Percent { quotient: 100, remainder: 0 })));
+}
+
+#[test]
+fn tags_with_a_known_end() {
+    assert_eq!(tagged_to(BASE + 0x08), Ok((function(0x08, 0x04), Percent { quotient: 50, remainder: 0 })));
+    assert_eq!(tagged_to(BASE + 0x01), Ok((function(0x01, 0x04), Percent { quotient: 400, remainder: 0 })));
+}
+
+#[test]
+fn no_tag_of_an_empty_record() {
+    assert_eq!(tagged_to(BASE), Err(TagError::EmptyRecord(function(0x00, 0x04))));
+    assert_eq!(tagged_to(LOW), Err(TagError::EmptyRecord(Function { end: LOW, ..function(0x00, 0x04) })));
+}
+
+#[test]
+fn no_tag_of_a_refused_walk() {
+    assert_eq!(tagged(options(BASE, &[]), &[]), Err(TagError::Refused(Refusal { number: 14, address: 0, register: 0 })));
+    assert_eq!(tagged(options(LOW - 4, C3), C3), Err(TagError::Refused(Refusal { number: 1, address: 0, register: 0 })));
 }
 
 /// 1 to 4 leave the lists as they were.

@@ -5,13 +5,14 @@ use std::process::ExitCode;
 use oracle::analysis::functions::walk::{Answer, Request};
 
 fn main() -> io::Result<ExitCode> {
-    let (mut show_steps, mut show_errors) = (false, false);
+    let (mut show_steps, mut show_errors, mut tag_alone) = (false, false, false);
     for argument in std::env::args().skip(1) {
         match argument.as_str() {
             "steps" => show_steps = true,
             "errors" => show_errors = true,
+            "tag" => tag_alone = true,
             other => {
-                eprintln!("walk [steps] [errors], not {other}");
+                eprintln!("walk [steps] [errors], or walk tag, not {other}");
                 return Ok(ExitCode::FAILURE);
             }
         }
@@ -27,7 +28,11 @@ fn main() -> io::Result<ExitCode> {
             eprintln!("not a request");
             return Ok(ExitCode::FAILURE);
         };
-        answer(&mut out, &request, show_steps, show_errors)?;
+        if tag_alone {
+            tag(&mut out, &request)?;
+        } else {
+            answer(&mut out, &request, show_steps, show_errors)?;
+        }
         if !rest.is_empty() {
             writeln!(out)?;
         }
@@ -54,4 +59,11 @@ fn answer(out: &mut impl Write, request: &Request, show_steps: bool, show_errors
         writeln!(out, "error {error}")?;
     }
     Ok(())
+}
+
+fn tag(out: &mut impl Write, request: &Request) -> io::Result<()> {
+    match request.outside() {
+        Some(number) => writeln!(out, "outside {number}"),
+        None => write!(out, "{}", request.walk().tag.expect("this is built with debug assertions")),
+    }
 }

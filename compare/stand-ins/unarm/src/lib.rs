@@ -192,6 +192,19 @@ impl Iterator for Arguments {
     }
 }
 
+#[cfg(debug_assertions)]
+thread_local! {
+    static DEFS_CALLS: std::cell::Cell<u64> = const { std::cell::Cell::new(0) };
+}
+
+/// How often `Ins::defs` was called. It is not counted where the original is timed, without debug assertions.
+pub fn defs_calls() -> Option<u64> {
+    #[cfg(debug_assertions)]
+    return Some(DEFS_CALLS.get());
+    #[cfg(not(debug_assertions))]
+    return None;
+}
+
 impl Ins {
     /// A condition field other than 1110 and 1111.
     pub fn is_conditional(&self) -> bool {
@@ -204,6 +217,8 @@ impl Ins {
     }
 
     pub fn defs(&self) -> Arguments {
+        #[cfg(debug_assertions)]
+        DEFS_CALLS.set(DEFS_CALLS.get() + 1);
         self.arguments(self.defined(), matches!(self, Self::Ldm { .. } | Self::Pop { .. }))
     }
 

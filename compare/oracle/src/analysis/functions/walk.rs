@@ -43,10 +43,12 @@ pub enum Answer {
     },
 }
 
-/// An answer, and the lists after each step before the one that ended the walk.
+/// An answer, the lists after each step before the one that ended the walk, and the tag's line.
 pub struct Walked {
     pub steps: Vec<Step>,
     pub answer: Answer,
+    /// None where steps are not counted, without debug assertions.
+    pub tag: Option<String>,
 }
 
 pub struct Step {
@@ -102,14 +104,20 @@ impl Request {
         let options = self.options(&existing);
         let found = BTreeMap::new();
 
-        let mut steps = Vec::new();
-        let mut address = self.start;
-        let by_steps = caught(|| stepwise(self.parser(), &options, &found, &mut address, &mut steps));
+        let mut notes = Notes { steps: Vec::new(), address: self.start, bytes: unarm::defs_calls().map(|_| 0) };
+        let by_steps = caught(|| stepwise(self.parser(), &options, &found, &mut notes));
         let by_loop = caught(|| Function::function_parser_loop_inner(self.parser(), &options, &found));
 
+        let Notes { steps, address, bytes } = notes;
+        let percent = match &by_steps {
+            Ok(Ok(function)) => bytes.map(|bytes| percent(function, bytes)),
+            _ => None,
+        };
         let answer = answer(by_steps, address);
         assert_eq!(answer.text(), self::answer(by_loop, address).text(), "the original's loop and the one here differ");
-        Walked { steps, answer }
+        // A walk that is refused has no tag but its refusal.
+        let tag = percent.or_else(|| bytes.map(|_| answer.text()));
+        Walked { steps, answer, tag }
     }
 
     /// The original's own loop and nothing else, for timing.
@@ -163,25 +171,41 @@ fn number(rest: &mut &[u8]) -> Option<u32> {
     Some(u32::from_be_bytes(first))
 }
 
-/// What `function_parser_loop_inner` does after its start check, with a note of each step and of the address that it is at.
+/// What is noted of a walk on its way: the steps that went on, the address that it is at, and the bytes of its instructions.
+struct Notes {
+    steps: Vec<Step>,
+    address: u32,
+    /// None where they are not counted.
+    bytes: Option<u32>,
+}
+
+/// What `function_parser_loop_inner` does after its start check, with notes.
 fn stepwise(
     mut parser: Parser<'_>,
     options: &FunctionParseOptions,
     found: &BTreeMap<u32, Function>,
-    at: &mut u32,
-    steps: &mut Vec<Step>,
+    notes: &mut Notes,
 ) -> Result<Function, FunctionAnalysisError> {
     let mut context = ParseFunctionContext::new(false, options, found);
     let ending = loop {
-        *at = parser.pc();
+        let at = parser.pc();
+        notes.address = at;
         // Without an end, this gives "no epilogue".
         let Some(ins) = parser.next() else { break ParseFunctionState::Done };
-        let size = parser.pc() - *at;
-        let state = context.handle_ins(&mut parser, *at, ins, size);
+        let size = parser.pc() - at;
+        let before = unarm::defs_calls();
+        let state = context.handle_ins(&mut parser, at, ins, size);
+        // The original asks what a word writes where it handles it as an instruction, and asks a word that it skips nothing. It leaves its end at
+        // the word itself where that is the entry of the next function.
+        let is_handled = unarm::defs_calls() != before;
+        let is_next_entry = state.ended() && context.end_address == Some(at);
+        if is_handled && !is_next_entry {
+            notes.bytes = notes.bytes.map(|bytes| bytes + size);
+        }
         if state.ended() {
             break state;
         }
-        steps.push(Step { address: *at, next: parser.pc(), lists: context.lists() });
+        notes.steps.push(Step { address: at, next: parser.pc(), lists: context.lists() });
     };
     let mut function = context.into_function(ending)?;
     if let Some(&pool) = function.pool_constants.keys().next()
@@ -242,6 +266,17 @@ fn record(function: &Function) -> String {
         function.last_instruction_address,
         lists(&function.labels, &function.pool_constants, &function.jump_tables, &function.inline_tables, &function.function_calls),
     )
+}
+
+/// The tag's line, of document 02: the instruction bytes as a percentage of the record's length, with the remainder.
+fn percent(function: &Function, bytes: u32) -> String {
+    match function.end_address.checked_sub(function.start_address).map(u64::from) {
+        None | Some(0) => "refused 17 00000000\n".to_string(),
+        Some(length) => {
+            let hundredfold = u64::from(bytes) * 100;
+            format!("tag {} {}\n", hundredfold / length, hundredfold % length)
+        }
+    }
 }
 
 impl Answer {

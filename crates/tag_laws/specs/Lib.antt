@@ -1,0 +1,2 @@
+-- What is claimed of tags.
+pub mod Claims

@@ -1,0 +1,2 @@
+// What holds of tags. This crate has no code: definitions in specs/, proofs in proofs/.
+#![tactic(auto)]
