@@ -169,6 +169,95 @@ static inline uint32_t cugbejin_walk_tag(
         answer, percent);
 }
 
+/* ---- A module's table, and its file. README.md has the file's form. */
+
+/* A function: its four addresses, and how many entries of each kind are its own. */
+struct cugbejin_function {
+    uint32_t start, end, first_instruction, last_instruction_end;
+    uint32_t labels, pools, jump_tables, inline_tables, calls;
+};
+
+static_assert(sizeof(struct cugbejin_function) == 9 * sizeof(uint32_t), "a function is nine numbers");
+
+/* A table of `count` functions, in lists with room for so many rows. A function's entries stand in each list after those of the one before. What
+ * stands behind them is no part of the table. */
+struct cugbejin_module {
+    struct cugbejin_function *functions;
+    size_t function_rows;
+    size_t count;
+    struct cugbejin_lists entries;
+};
+
+/* What these two refuse, besides 0 for what is done. */
+enum cugbejin_table_refusal {
+    CUGBEJIN_TABLE_UNORDERED = 4, /* a count above its list, entries or functions that do not ascend strictly, by address and by first instruction */
+    CUGBEJIN_TABLE_NO_ROOM = 18   /* no place for the function or for one of its entries; or an output that is too short, or a length above 32 bits */
+};
+
+/* The proved functions, which the two below call. */
+uint32_t cugbejin_append(
+    uint32_t start, uint32_t end, uint32_t first_instruction, uint32_t last_instruction_end,
+    size_t label_count, size_t pool_count, size_t jump_table_count, size_t inline_table_count, size_t call_count,
+    uint32_t *labels, size_t labels_length,
+    uint32_t *pools, size_t pools_length,
+    uint32_t *jump_tables, size_t jump_tables_length,
+    uint32_t *inline_tables, size_t inline_tables_length,
+    uint32_t *calls, size_t calls_length,
+    uint32_t *functions, size_t functions_length, size_t count,
+    uint32_t *table_labels, size_t table_labels_length,
+    uint32_t *table_pools, size_t table_pools_length,
+    uint32_t *table_jump_tables, size_t table_jump_tables_length,
+    uint32_t *table_inline_tables, size_t table_inline_tables_length,
+    uint32_t *table_calls, size_t table_calls_length);
+
+uint32_t cugbejin_write(
+    const uint32_t *functions, size_t functions_length, size_t count,
+    const uint32_t *labels, size_t labels_length,
+    const uint32_t *pools, size_t pools_length,
+    const uint32_t *jump_tables, size_t jump_tables_length,
+    const uint32_t *inline_tables, size_t inline_tables_length,
+    const uint32_t *calls, size_t calls_length,
+    uint8_t *out, size_t out_length, uint64_t *length);
+
+/* Puts the function of an accepted answer, with the lists that its walk left, behind the table. Returns 0, and the table has one function more; or the
+ * refusal's number, and the table is as it was. Functions come by ascending first instruction. The two must not overlap. */
+static inline uint32_t cugbejin_put(struct cugbejin_module *table, const struct cugbejin_answer *answer, const struct cugbejin_lists *lists)
+{
+    uint32_t empty = 0, empty_too = 0; /* where lists without room may point */
+    const struct cugbejin_lists *to = &table->entries;
+    uint32_t number = cugbejin_append(
+        (uint32_t)answer->start, (uint32_t)answer->end, (uint32_t)answer->first_instruction, (uint32_t)answer->last_instruction_end,
+        (size_t)answer->labels, (size_t)answer->pools, (size_t)answer->jump_tables, (size_t)answer->inline_tables, (size_t)answer->calls,
+        lists->labels ? lists->labels : &empty, lists->label_rows,
+        lists->pools ? (uint32_t *)lists->pools : &empty, 3 * lists->pool_rows,
+        lists->jump_tables ? (uint32_t *)lists->jump_tables : &empty, 2 * lists->jump_table_rows,
+        lists->inline_tables ? (uint32_t *)lists->inline_tables : &empty, 2 * lists->inline_table_rows,
+        lists->calls ? (uint32_t *)lists->calls : &empty, 4 * lists->call_rows,
+        table->functions ? (uint32_t *)table->functions : &empty_too, 9 * table->function_rows, table->count,
+        to->labels ? to->labels : &empty_too, to->label_rows,
+        to->pools ? (uint32_t *)to->pools : &empty_too, 3 * to->pool_rows,
+        to->jump_tables ? (uint32_t *)to->jump_tables : &empty_too, 2 * to->jump_table_rows,
+        to->inline_tables ? (uint32_t *)to->inline_tables : &empty_too, 2 * to->inline_table_rows,
+        to->calls ? (uint32_t *)to->calls : &empty_too, 4 * to->call_rows);
+    if (number == 0) table->count++;
+    return number;
+}
+
+/* Writes the table's file to the start of `out`. Returns 0, and *length is how many bytes it has; or the refusal's number, and no byte is written. */
+static inline uint32_t cugbejin_table_file(const struct cugbejin_module *table, uint8_t *out, size_t out_length, uint64_t *length)
+{
+    uint32_t empty = 0;
+    const struct cugbejin_lists *from = &table->entries;
+    return cugbejin_write(
+        table->functions ? (const uint32_t *)table->functions : &empty, 9 * table->function_rows, table->count,
+        from->labels ? from->labels : &empty, from->label_rows,
+        from->pools ? (const uint32_t *)from->pools : &empty, 3 * from->pool_rows,
+        from->jump_tables ? (const uint32_t *)from->jump_tables : &empty, 2 * from->jump_table_rows,
+        from->inline_tables ? (const uint32_t *)from->inline_tables : &empty, 2 * from->inline_table_rows,
+        from->calls ? (const uint32_t *)from->calls : &empty, 4 * from->call_rows,
+        out ? out : (uint8_t *)&empty, out_length, length);
+}
+
 #ifdef __cplusplus
 }
 #endif

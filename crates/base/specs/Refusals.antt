@@ -1,9 +1,9 @@
--- Document 01's refusals, by name.
+-- The refusals of documents 01 and 02, by name.
 -- Assumes nothing.
 use Rattle.std.specs.Prelude.{ℕ}
 use Rattle.base.specs.declared.refusal.Refusal.{Refusal}
 use Rattle.base.specs.declared.refusal.Refusal.TheVariants.{BadWindow, BadStart, UnalignedStart, BadLists, IllegalOpcode, ShiftedBase, OffsetByItself, PcIntoPc, BranchOutside}
-use Rattle.base.specs.declared.refusal.Refusal.TheVariants.{PoolOutside, UndefinedRegister, Beyond32Bits, ListFull, NoEpilogue, NotDone, BadRequest, EmptyRecord}
+use Rattle.base.specs.declared.refusal.Refusal.TheVariants.{PoolOutside, UndefinedRegister, Beyond32Bits, ListFull, NoEpilogue, NotDone, BadRequest, EmptyRecord, NoRoom}
 
 -- a refusal's number
 abbrev pub refusal_no : Refusal → ℕ
@@ -24,3 +24,4 @@ refusal_no NoEpilogue = 14
 refusal_no NotDone = 15
 refusal_no BadRequest = 16
 refusal_no EmptyRecord = 17
+refusal_no NoRoom = 18

@@ -1,8 +1,8 @@
-// Document 01's refusals, by name. docs/REFUSALS.md has the whole table.
+// The refusals of document 01, and from 17 on of document 02, by name. docs/REFUSALS.md has the whole table.
 ghost use Rattle.std.specs.Prelude.{◌≡◌};
 ghost use Rattle.base.specs.Refusals.{refusal_no};
 
-// A refusal's number in document 01 is its discriminant.
+// A refusal's number is its discriminant.
 #[derive(Clone, Copy, PartialEq, Eq)]
 pub enum Refusal {
     BadWindow = 1,
@@ -22,6 +22,7 @@ pub enum Refusal {
     NotDone = 15,
     BadRequest = 16,
     EmptyRecord = 17,
+    NoRoom = 18,
 }
 
 impl From<Refusal> for u8 {

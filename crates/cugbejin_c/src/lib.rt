@@ -2,6 +2,8 @@
 // list's rows stand one after another, so that a host may lend an array of structs of 32-bit numbers.
 #![tactic(auto)]
 
+pub mod module_table;
+
 ghost use Rattle.std.specs.Prelude.{◌≡◌};
 ghost use Rattle.context.specs.Lists.{lists};
 ghost use Rattle.context.specs.Turn.{no_maps, counts_of};

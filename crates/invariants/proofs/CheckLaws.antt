@@ -39,7 +39,7 @@ module _ (o : Options) (a : ℕ) (code starts : List ℕ) where
 -- ---- a step that passed
 
 module _ (n : Counts) (l : Lists) where
-  held-order : AllHeld n l → are_in_order n l ≡ true
+  pub held-order : AllHeld n l → are_in_order n l ≡ true
   unfolding are_in_order
   held-order h =
       rw (held-in-order h.labels, held-in-order h.pools, held-in-order h.jump_tables, held-in-order h.inline_tables)

@@ -27,7 +27,7 @@ pub struct SharedLists<'a> {
     pub calls: &'a [u32],
 }
 
-fn put_field(writer: &mut Writer<'_>, value: u32)
+pub fn put_field(writer: &mut Writer<'_>, value: u32)
     requires { HasRoom writer.old 9 }
     ensures { Wrote writer.old writer.new (field value) × (writer.new.at ≡ writer.old.at + 9) }
 {

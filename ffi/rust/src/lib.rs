@@ -1,6 +1,8 @@
 //! One function's walk, from an accepted start to its record or a refusal, and its tag: safe calls of the proved `cugbejin_run` and `cugbejin_tag`.
 //! Every input gets an answer; `cugbejin.h` and docs/REFUSALS.md have the refusals.
 
+pub mod module;
+
 /// The host's choices for a walk.
 #[derive(Clone, Copy, Debug)]
 pub struct Options {

@@ -1,0 +1,2 @@
+-- The proof of what an append keeps.
+pub mod KeptLaws

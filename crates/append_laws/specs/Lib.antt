@@ -1,0 +1,2 @@
+-- What an append keeps.
+pub mod Kept

@@ -1,0 +1,2 @@
+-- What the theorems about tables and their files say.
+pub mod Files
