@@ -57,11 +57,11 @@ impl Lent {
 
     /// The answer and the lists in the words of the oracle.
     fn listing(&self, answer: Result<Function, Refusal>) -> String {
-        let Function { start, end, first_instruction, last_instruction_end, counts } = match answer {
+        let Function { start, end, first_instruction, last_instruction_end, saved_registers, counts } = match answer {
             Ok(function) => function,
             Err(Refusal { number, address, .. }) => return format!("refused {number} {address:08x}\n"),
         };
-        let mut text = format!("function {start:08x} {end:08x} {first_instruction:08x} {last_instruction_end:08x}\n");
+        let mut text = format!("function {start:08x} {end:08x} {first_instruction:08x} {last_instruction_end:08x} {saved_registers:02}\n");
         self.labels[..counts.labels].iter().for_each(|label| writeln!(text, "label {label:08x}").unwrap());
         for Pool { address, value, mark } in &self.pools[..counts.pools] {
             writeln!(text, "pool {address:08x} {value:08x} {}", ["other", "call"][*mark as usize]).unwrap();

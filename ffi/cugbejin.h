@@ -11,15 +11,16 @@
 extern "C" {
 #endif
 
-/* What a call answers, in twelve numbers. */
+/* What a call answers, in thirteen numbers. */
 struct cugbejin_answer {
     uint64_t number;               /* 0: accepted; else the refusal, see below */
     uint64_t address;              /* of the instruction that is refused; 0 with 0, 1 to 4 and 14 */
     uint64_t undefined_register;   /* with 11 the lowest register that is undefined and used, else 0 */
-    uint64_t start;                /* the record: the function's start and end, its first instruction, and the end of its last; */
-    uint64_t end;                  /* all 0 where the function is refused */
-    uint64_t first_instruction;
+    uint64_t start;                /* the record: the function's start and end, its first instruction, the end of its last, */
+    uint64_t end;                  /* and how many registers its first one saves, 0 if that is no unconditional push of LR; */
+    uint64_t first_instruction;    /* all 0 where the function is refused */
     uint64_t last_instruction_end;
+    uint64_t saved_registers;
     uint64_t labels;               /* entries in each list; all 0 where the function is refused */
     uint64_t pools;
     uint64_t jump_tables;
@@ -171,13 +172,14 @@ static inline uint32_t cugbejin_walk_tag(
 
 /* ---- A module's table, and its file. README.md has the file's form. */
 
-/* A function: its four addresses, and how many entries of each kind are its own. */
+/* A function: its four addresses, how many registers its first instruction saves, and how many entries of each kind are its own. */
 struct cugbejin_function {
     uint32_t start, end, first_instruction, last_instruction_end;
+    uint32_t saved_registers; /* not in the file */
     uint32_t labels, pools, jump_tables, inline_tables, calls;
 };
 
-static_assert(sizeof(struct cugbejin_function) == 9 * sizeof(uint32_t), "a function is nine numbers");
+static_assert(sizeof(struct cugbejin_function) == 10 * sizeof(uint32_t), "a function is ten numbers");
 
 /* A table of `count` functions, in lists with room for so many rows. A function's entries stand in each list after those of the one before. What
  * stands behind them is no part of the table. */
@@ -196,7 +198,7 @@ enum cugbejin_table_refusal {
 
 /* The proved functions, which the two below call. */
 uint32_t cugbejin_append(
-    uint32_t start, uint32_t end, uint32_t first_instruction, uint32_t last_instruction_end,
+    uint32_t start, uint32_t end, uint32_t first_instruction, uint32_t last_instruction_end, uint32_t saved_registers,
     size_t label_count, size_t pool_count, size_t jump_table_count, size_t inline_table_count, size_t call_count,
     uint32_t *labels, size_t labels_length,
     uint32_t *pools, size_t pools_length,
@@ -227,13 +229,14 @@ static inline uint32_t cugbejin_put(struct cugbejin_module *table, const struct 
     const struct cugbejin_lists *to = &table->entries;
     uint32_t number = cugbejin_append(
         (uint32_t)answer->start, (uint32_t)answer->end, (uint32_t)answer->first_instruction, (uint32_t)answer->last_instruction_end,
+        (uint32_t)answer->saved_registers,
         (size_t)answer->labels, (size_t)answer->pools, (size_t)answer->jump_tables, (size_t)answer->inline_tables, (size_t)answer->calls,
         lists->labels ? lists->labels : &empty, lists->label_rows,
         lists->pools ? (uint32_t *)lists->pools : &empty, 3 * lists->pool_rows,
         lists->jump_tables ? (uint32_t *)lists->jump_tables : &empty, 2 * lists->jump_table_rows,
         lists->inline_tables ? (uint32_t *)lists->inline_tables : &empty, 2 * lists->inline_table_rows,
         lists->calls ? (uint32_t *)lists->calls : &empty, 4 * lists->call_rows,
-        table->functions ? (uint32_t *)table->functions : &empty_too, 9 * table->function_rows, table->count,
+        table->functions ? (uint32_t *)table->functions : &empty_too, 10 * table->function_rows, table->count,
         to->labels ? to->labels : &empty_too, to->label_rows,
         to->pools ? (uint32_t *)to->pools : &empty_too, 3 * to->pool_rows,
         to->jump_tables ? (uint32_t *)to->jump_tables : &empty_too, 2 * to->jump_table_rows,
@@ -249,7 +252,7 @@ static inline uint32_t cugbejin_table_file(const struct cugbejin_module *table, 
     uint32_t empty = 0;
     const struct cugbejin_lists *from = &table->entries;
     return cugbejin_write(
-        table->functions ? (const uint32_t *)table->functions : &empty, 9 * table->function_rows, table->count,
+        table->functions ? (const uint32_t *)table->functions : &empty, 10 * table->function_rows, table->count,
         from->labels ? from->labels : &empty, from->label_rows,
         from->pools ? (const uint32_t *)from->pools : &empty, 3 * from->pool_rows,
         from->jump_tables ? (const uint32_t *)from->jump_tables : &empty, 2 * from->jump_table_rows,

@@ -92,7 +92,7 @@ def begins():
     yield refused(1, "the module's end above 03000000", C3, base=HIGH - 4, module=(0, 8))
     yield refused(1, "the module's start above its end", C3, module=(8, 4))
     yield Example('1: base 03000000 is in', [], 'refused 14 00000000\n', base=HIGH)
-    yield Example('1: base 01ff8000 is in', C3, 'function 01ff8000 01ff8004 01ff8000 01ff8004\n', base=LOW)
+    yield Example('1: base 01ff8000 is in', C3, 'function 01ff8000 01ff8004 01ff8000 01ff8004 00\n', base=LOW)
     yield refused(2, 'start 02000008, 4 bytes', C3, start=8)
     yield refused(2, 'start below base', C3, start=-4)
     yield Example("2: a start at the code's end is in", C3, 'refused 14 00000000\n', start=4)
@@ -104,8 +104,8 @@ def begins():
     yield refused(3, 'before 4', C3, start=2, starts=(5, 5))
 
 
-END_OF_C1 = 'function 02000000 0200000c 02000000 02000008\npool 02000008 12345678 other\n'
-END_OF_C3 = 'function 02000000 02000004 02000000 02000004\n'
+END_OF_C1 = 'function 02000000 0200000c 02000000 02000008 00\npool 02000008 12345678 other\n'
+END_OF_C3 = 'function 02000000 02000004 02000000 02000004 00\n'
 
 
 def calls_out_of_turn():
@@ -126,7 +126,7 @@ def registers():
     yield Example('11: the lowest', [data(ADD, 0, 6, shifted(5)), RETURN], 'refused 11 02000000\nregister 05\n', check=1)
     # Document 02: STR r4, [SP, #-4]! is a push of r4, which a push defines; r2 and LR, in bits 15 to 0, are no part of its list.
     yield Example('a push of one register', [0xE52D4004, mov(0, shifted(4)), RETURN],
-                  'step 02000000 02000004\nstep 02000004 02000008\nfunction 02000000 0200000c 02000000 0200000c\n', check=1)
+                  'step 02000000 02000004\nstep 02000004 02000008\nfunction 02000000 0200000c 02000000 0200000c 00\n', check=1)
     yield Example('11: after a push of another', [0xE52D4004, mov(0, shifted(5)), RETURN], 'step 02000000 02000004\nrefused 11 02000004\nregister 05\n', check=1)
     yield Example('11: a store below SP by a register is no push', [0xE72D4004, RETURN], 'refused 11 02000000\nregister 04\n', check=1)
 
@@ -157,7 +157,7 @@ def full_lists():
     held, label = 'jump 0200000c 0000000c\n', 'label 02000018\n'
     text = f'step 02000000 02000004\njump 0200000c 00000004\nstep 02000004 02000008\n{held}'
     text += ''.join(f'step {a:08x} {a + 4:08x}\n{label}{held}' for a in range(0x02000008, 0x02000018, 4))
-    text += f'function 02000000 0200001c 02000000 0200001c\n{label}{held}'
+    text += f'function 02000000 0200001c 02000000 0200001c 00\n{label}{held}'
     yield Example('jump tables: held, made up', C8, text, places=(1, 0, 1, 0, 0),
                   turns=[turn((JUMPS, 1), places=[(IN_JUMPS, 0, 0x0200000C), (IN_JUMPS, 1, 4)])])
 
@@ -174,7 +174,7 @@ def full_lists():
     yield Example('calls: one more, and three numbers of its row', two, full(0x02000004), 'to 02000004', places=(0, 0, 0, 0, 1), more=3)
     one = 'call 02000000 eb00003e 02000100 arm\n'
     yield Example('calls: held, made up', [b(0, 0x40, AL, 1), RETURN],
-                  f'step 02000000 02000004\n{one}function 02000000 02000008 02000000 02000008\n{one}', places=(0, 0, 0, 0, 1),
+                  f'step 02000000 02000004\n{one}function 02000000 02000008 02000000 02000008 00\n{one}', places=(0, 0, 0, 0, 1),
                   turns=[turn((CALLS, 1), places=[(IN_CALLS, 0, BASE), (IN_CALLS, 1, 5)])])
 
     # Which of two refusals comes first.

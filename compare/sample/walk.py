@@ -532,7 +532,7 @@ def outcome(text):
 
 def by_one(request, text):
     """Accepted, with a push of LR alone as the first instruction and a pop of PC alone as the last."""
-    found = re.search(r'^function \w+ \w+ (\w+) (\w+)$', text, re.M)
+    found = re.search(r'^function \w+ \w+ (\w+) (\w+) \d\d$', text, re.M)
     return bool(found) and request.word(int(found[1], 16)) == push_one(LR) and request.word(int(found[2], 16) - 4) == pop_one(PC)
 
 

@@ -1,5 +1,6 @@
-/* Walks document 01's marked runs C1 to C12, and its examples of the refusals 1 to 4 and 13. What is expected is typed from 01's tables. Each run is
- * walked once more with its tag, which is worked out by hand: 100 for each byte of an instruction, divided by the record's length. */
+/* Walks document 01's marked runs C1 to C12, its examples of the refusals 1 to 4 and 13, and a function that saves registers. What is expected is typed
+ * from 01's tables; what is saved is counted in the word. Each run is walked once more with its tag, which is worked out by hand: 100 for each byte of an
+ * instruction, divided by the record's length. */
 #include <stdbool.h>
 #include <stdio.h>
 #include <string.h>
@@ -70,6 +71,8 @@ static const struct run runs[] = {
     /* C8 whose first branch, at 08, finds no place for its label */
     {"refusal 13", 7, {0xE3500002, 0x908FF100, 0xEA000002, 0xEA000001, 0xEA000000, 0xEAFFFFFF, 0xE12FFF1E}, BASE, BASE + 0x1C, BASE,
      .no_labels = 1, .answer = {.number = 13, .address = BASE + 0x08}},
+    /* push {r4, r5, r6, lr}; pop {r4, r5, r6, pc} */
+    {"saved registers", 2, {0xE92D4070, 0xE8BD8070}, BASE, BASE + 0x08, BASE, .answer = {FUNCTION(0x08, 0x08), .saved_registers = 4}},
 };
 
 static void fill(struct lists *lists, uint32_t value)

@@ -49,6 +49,7 @@ function_of r m = record {
   end = r.end;
   first_instruction = r.first_instruction;
   last_instruction_end = r.last_instruction_end;
+  saved_registers = r.saved_registers;
   labels = m.labels;
   pools = map (flagged 2) m.pools;
   jump_tables = m.jump_tables;
@@ -59,7 +60,8 @@ function_of r m = record {
 -- its row
 unfoldable pub row_of : Record → Counts → List ℕ
 row_of r n =
-    r.start ∷ r.end ∷ r.first_instruction ∷ r.last_instruction_end ∷ n.labels ∷ n.pools ∷ n.jump_tables ∷ n.inline_tables ∷ n.calls ∷ []
+    r.start ∷ r.end ∷ r.first_instruction ∷ r.last_instruction_end ∷ r.saved_registers
+    ∷ n.labels ∷ n.pools ∷ n.jump_tables ∷ n.inline_tables ∷ n.calls ∷ []
 
 -- ---- number 4
 

@@ -85,6 +85,7 @@ fn row_of(r: Record, n: Counts) -> Row
         r.end,
         r.first_instruction,
         r.last_instruction_end,
+        r.saved_registers,
         n.labels as u32,
         n.pools as u32,
         n.jump_tables as u32,

@@ -8,7 +8,7 @@ ghost use Rattle.std.specs.Prelude.{Some};
 ghost use Rattle.predicates.specs.Predicates.{is_branch, is_entry_instruction};
 ghost use Rattle.rows.specs.Map.{Held, map_in, stands-in};
 ghost use Rattle.context.specs.Context.{label_row, pool_row, function_branch_to};
-ghost use Rattle.context.specs.Blocks.{branch_outside, is_entry_word, is_entry_at, final_return, entry_after_branch, branch, function_call};
+ghost use Rattle.context.specs.Blocks.{branch_outside, saved_by_word, saved_at, is_entry_at, final_return, entry_after_branch, branch, function_call};
 ghost use Rattle.context.specs.State.{Does, Puts, PutsIf, ToldOfCalls, same, machined, labels_in, pools_in, code_in, options_in, starts_in};
 
 use arm::Ins;
@@ -28,21 +28,28 @@ pub fn branch_outside(s: State, ins: Ins) -> Stepped
     assign::on(s)
 }
 
-// STMDB SP!, {.., LR, ..} and STR LR, [SP, #-4]!: the word's fields are tested, since a second use of the decoder is slow.
-fn is_entry_word(word: u32) -> bool
-    ensures { (a : ℕ) → result ≡ is_entry_word (Some word) a }
+// How many registers STMDB SP!, {.., LR, ..} and STR LR, [SP, #-4]! save: the word's fields are tested, since a second use of the decoder is slow.
+fn saved_by_word(word: u32) -> u32
+    ensures { (a : ℕ) → result ≡ saved_by_word (Some word) a }
 {
     if word / 0x1_0000 == 0xE92D {
-        word / 0x4000 % 2 == 1
+        let list = word % 0x1_0000;
+        if list / 0x4000 % 2 == 1 {
+            list.count_ones()
+        } else {
+            0
+        }
+    } else if word == 0xE52D_E004 {
+        1
     } else {
-        word == 0xE52D_E004
+        0
     }
 }
 
-fn is_entry_at(code: &[u8], base: u32, address: u32) -> bool
-    ensures { result ≡ is_entry_at code.now base address }
+fn saved_at(code: &[u8], base: u32, address: u32) -> u32
+    ensures { result ≡ saved_at code.now base address }
 {
-    word_from(code, base, address).is_some_and(is_entry_word)
+    word_from(code, base, address).map_or(0, saved_by_word)
 }
 
 // is_long_branch_destination of the address behind the instruction
@@ -50,7 +57,7 @@ fn is_entry_at(code: &[u8], base: u32, address: u32) -> bool
 fn is_long_branch(m: Module, end: u32, last_pool_address: u32, is_called: bool) -> bool
     ensures { result ≡ both (ltb end last_pool_address) (both is_called (not (is_entry_at m.entry.code.now m.entry.options.base end))) }
 {
-    end < last_pool_address && is_called && !is_entry_at(m.code, m.options.base, end)
+    end < last_pool_address && is_called && saved_at(m.code, m.options.base, end) == 0
 }
 
 #[tactic(auto, using(std::proofs::lemmas::Bool::Decides::nat_tests))]
@@ -96,7 +103,7 @@ fn is_entry_after_branch(p: Progress, ins: Ins, inside: bool) -> bool
     ensures { result ≡ both (ltb p.start p.address) (both (is_entry_instruction ins) (both p.previous.is_branch (either inside p.previous.is_conditional))) }
 {
     p.start < p.address
-        && predicates::is_entry_instruction(ins)
+        && predicates::saved_registers(ins) > 0
         && p.previous.is_branch
         && (inside || p.previous.is_conditional)
 }

@@ -20,7 +20,7 @@ use Rattle.base.specs.declared.refusal.Refusal.TheVariants.{BranchOutside, PoolO
 use Rattle.base.specs.Words.{word_from}
 use Rattle.predicates.specs.declared.Mode.{Mode}
 use Rattle.predicates.specs.declared.Mode.TheVariants.{Arm, Thumb}
-use Rattle.predicates.specs.Predicates.{is_branch, is_bx, is_return, is_entry_instruction, is_pool_load, pool_address, is_function_call, as_previous}
+use Rattle.predicates.specs.Predicates.{is_branch, is_bx, is_return, saved_registers, is_entry_instruction, is_pool_load, pool_address, is_function_call, as_previous}
 use Rattle.registers.specs.Registers.{forgotten, holding, source_of}
 use Rattle.rows.specs.Rows.{rank, stands, inserted}
 use Rattle.rows.specs.Map.{key_of, stands-in, at_or_above}
@@ -148,13 +148,17 @@ unfoldable pub is_destination : ℕ → List (List ℕ) → Bool
 is_destination a [] = false
 is_destination a (r ∷ rs) = pick (eqb (get_or r 2 0) a) true (is_destination a rs)
 
--- is_entry_instruction_at
-abbrev pub is_entry_word : Optional ℕ → ℕ → Bool
-is_entry_word (Some w) a = is_entry_instruction (decode_of w a)
-is_entry_word None a = false
+-- is_entry_instruction_at, as a number
+abbrev pub saved_by_word : Optional ℕ → ℕ → ℕ
+saved_by_word (Some w) a = saved_registers (decode_of w a)
+saved_by_word None a = 0
 
-unfoldable pub is_entry_at : List ℕ → ℕ → ℕ → Bool
-is_entry_at code base a = is_entry_word (word_from code base a) a
+unfoldable pub saved_at : List ℕ → ℕ → ℕ → ℕ
+saved_at code base a = saved_by_word (word_from code base a) a
+
+-- is_entry_instruction_at
+abbrev pub is_entry_at : List ℕ → ℕ → ℕ → Bool
+is_entry_at code base a = ltb 0 (saved_at code base a)
 
 -- is_long_branch_destination
 unfoldable pub is_long_branch_destination : ℕ → Context → Bool

@@ -1,19 +1,23 @@
 -- functions.rs, function_parser_loop_inner without its start check: one turn of the loop, from the word at the walk's address to the walk and
 -- the maps after it.
 -- Assumes nothing.
-use Rattle.std.specs.Prelude.{[], ℕ, length}
+use Rattle.std.specs.Prelude.{[], ℕ, eqb, length}
+use Rattle.arm.specs.declared.Ins.{Ins}
 use Rattle.arm.specs.Ins.{decode_of}
+use Rattle.base.specs.Choice.{pick}
 use Rattle.std.specs.Prelude.{Option, Some, None}
 use Rattle.base.specs.declared.refusal.Refusal.TheVariants.{NoEpilogue}
 use Rattle.base.specs.Words.{word_from}
+use Rattle.predicates.specs.Predicates.{saved_registers}
 use Rattle.rows.specs.Map.{first_key}
 use Rattle.walk.specs.declared.Answer.{Answer}
 use Rattle.walk.specs.declared.Answer.TheVariants.{Going, Accepted, Refused}
 use Rattle.walk.specs.declared.Counts.{Counts}
+use Rattle.walk.specs.declared.Progress.{Progress}
 use Rattle.walk.specs.declared.Walk.{Walk}
 use Rattle.walk.specs.IntoFunction.{into_function}
 use Rattle.context.specs.Blocks.{handle_ins}
-use Rattle.context.specs.Context.{Maps, Given, Context, Step, on, goes, ends, refuses, moving}
+use Rattle.context.specs.Context.{Maps, Given, Context, Step, on, goes, ends, refuses, with_progress, saving, moving}
 
 -- an ARM instruction's bytes
 abbrev pub arm_size : ℕ
@@ -53,9 +57,17 @@ abbrev pub key_or0 : Option ℕ → ℕ
 key_or0 (Some a) = a
 key_or0 None = 0
 
+-- what the first instruction saves: at the start it is this one, and from then on it stays
+abbrev pub saved_first : Ins → Progress → ℕ
+saved_first i p = pick (eqb p.address p.start) (saved_registers i) p.saved_registers
+
+abbrev pub with_saved : Ins → Context → Context
+with_saved i c = with_progress (saving (saved_first i c.progress) c.progress) c
+
 -- into_function, from a last instruction's end
 abbrev pub function_of : ℕ → Context → Answer
-function_of end c = into_function c.given.options c.progress.start end c.progress.last_pool_address (key_or0 (first_key c.maps.pools))
+function_of end c =
+    into_function c.given.options c.progress.start end c.progress.last_pool_address (key_or0 (first_key c.maps.pools)) c.progress.saved_registers
 
 -- the walk stands at the last instruction's end
 abbrev pub ending_at : ℕ → Context → Context
@@ -75,8 +87,12 @@ settled before (goes c) = walk_of Going c
 settled before (ends end c) = closed (function_of end c) (ending_at end c)
 settled before (refuses n r) = closed (Refused n before.progress.address r) before
 
+-- an instruction: what the first one saves, which the source does not ask, before what can skip it or end the walk; then handle_ins
+abbrev pub step_of : Ins → ℕ → Context → Step
+step_of i word c = handle_ins i word arm_size (with_saved i c)
+
 abbrev pub turn_at : Option ℕ → Context → Turned
-turn_at (Some word) c = settled c (handle_ins (decode_of word c.progress.address) word arm_size c)
+turn_at (Some word) c = settled c (step_of (decode_of word c.progress.address) word c)
 turn_at None c = closed (Refused NoEpilogue 0 0) c
 
 unfoldable pub turn : Given → Walk → Maps → Turned

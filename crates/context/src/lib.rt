@@ -9,7 +9,9 @@ pub mod assign;
 
 ghost use Rattle.std.specs.Prelude.{◌≡◌, ◌+◌, ◌<◌, ◌^◌, ltb};
 ghost use Rattle.context.specs.Blocks.{is_in, call_to};
-ghost use Rattle.context.specs.State.{is_on, loaded_by, Puts, same, asks_calls, passes};
+ghost use Rattle.context.specs.Context.{saving};
+ghost use Rattle.context.specs.State.{is_on, loaded_by, Puts, same, progressed, asks_calls, passes};
+ghost use Rattle.context.specs.Turn.{saved_first};
 ghost use Rattle.predicates.specs.Predicates.{mode_no};
 
 use arm::Ins;
@@ -160,6 +162,23 @@ pub fn asks_calls(s: State, size: u32, inside: bool, returns: bool) -> bool
     ensures { result ≡ asks_calls size inside returns s.progress }
 {
     !inside && returns && s.progress.address + size < s.progress.last_pool_address
+}
+
+// What the first instruction saves: at the start it is this one, and from then on it stays.
+fn saved_first(p: Progress, ins: Ins) -> u32
+    ensures { result ≡ saved_first ins p }
+{
+    if p.address == p.start {
+        predicates::saved_registers(ins)
+    } else {
+        p.saved_registers
+    }
+}
+
+pub fn with_saved(s: State, ins: Ins) -> State
+    ensures { result ≡ progressed (saving (saved_first ins s.progress) s.progress) s }
+{
+    assign::save(s, saved_first(s.progress, ins))
 }
 
 // handle_ins: the instruction becomes the previous one, and the walk goes on at the parser's address.

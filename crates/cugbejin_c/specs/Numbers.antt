@@ -1,4 +1,4 @@
--- The whole walk in numbers alone: the options that a host's numbers stand for, the twelve numbers of an answer, and the two of a tag.
+-- The whole walk in numbers alone: the options that a host's numbers stand for, the thirteen numbers of an answer, and the two of a tag.
 -- Assumes nothing.
 use Rattle.std.specs.Prelude.{ℕ, ◌≡◌, not, List, [], ◌∷◌, eqb}
 use Rattle.answers.specs.Answers.{number_of, address_of, register_of}
@@ -31,7 +31,7 @@ options_from base start end known known_end check = record {
 
 -- zeros where there is no record
 abbrev pub no_record : Record
-no_record = record { start = 0; end = 0; first_instruction = 0; last_instruction_end = 0 }
+no_record = record { start = 0; end = 0; first_instruction = 0; last_instruction_end = 0; saved_registers = 0 }
 
 abbrev pub record_of : Answer → Record
 record_of Going = no_record
@@ -41,7 +41,7 @@ record_of (Refused number address register) = no_record
 abbrev pub numbers_of : Answer → Counts → List ℕ
 numbers_of a n =
     number_of a ∷ address_of a ∷ register_of a
-    ∷ (record_of a).start ∷ (record_of a).end ∷ (record_of a).first_instruction ∷ (record_of a).last_instruction_end
+    ∷ (record_of a).start ∷ (record_of a).end ∷ (record_of a).first_instruction ∷ (record_of a).last_instruction_end ∷ (record_of a).saved_registers
     ∷ n.labels ∷ n.pools ∷ n.jump_tables ∷ n.inline_tables ∷ n.calls ∷ []
 
 abbrev pub answer_numbers : After → List ℕ

@@ -12,8 +12,8 @@ use Rattle.walk.specs.declared.Counts.{Counts}
 use Rattle.walk.specs.declared.Record.{Record}
 use Rattle.append.specs.Append.{Lent, answer, Appended}
 
-abbrev pub record_by : ℕ → ℕ → ℕ → ℕ → Record
-record_by start end first last = record { start = start; end = end; first_instruction = first; last_instruction_end = last }
+abbrev pub record_by : ℕ → ℕ → ℕ → ℕ → ℕ → Record
+record_by start end first last saved = record { start = start; end = end; first_instruction = first; last_instruction_end = last; saved_registers = saved }
 
 abbrev pub counts_by : ℕ → ℕ → ℕ → ℕ → ℕ → Counts
 counts_by labels pools jumps inlines calls = record { labels = labels; pools = pools; jump_tables = jumps; inline_tables = inlines; calls = calls }

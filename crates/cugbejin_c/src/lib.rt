@@ -1,5 +1,5 @@
-// The whole walk for programs in other languages, also with its tag: a slice is a pointer and a length, an answer is twelve numbers, and a tag is two. A
-// list's rows stand one after another, so that a host may lend an array of structs of 32-bit numbers.
+// The whole walk for programs in other languages, also with its tag: a slice is a pointer and a length, an answer is thirteen numbers, and a tag is
+// two. A list's rows stand one after another, so that a host may lend an array of structs of 32-bit numbers.
 #![tactic(auto)]
 
 pub mod module_table;
@@ -52,7 +52,7 @@ fn record_of(answer: Answer) -> Record
     }
 }
 
-fn numbers_of(answer: Answer, counts: Counts) -> [u64; 12]
+fn numbers_of(answer: Answer, counts: Counts) -> [u64; 13]
     ensures { result ≡ numbers_of answer counts }
 {
     let found = record_of(answer);
@@ -64,6 +64,7 @@ fn numbers_of(answer: Answer, counts: Counts) -> [u64; 12]
         found.end as u64,
         found.first_instruction as u64,
         found.last_instruction_end as u64,
+        found.saved_registers as u64,
         counts.labels as u64,
         counts.pools as u64,
         counts.jump_tables as u64,
@@ -95,8 +96,8 @@ fn tag_numbers(tag: Tag) -> [u64; 2]
 }
 
 // 0, or the number of a refusal. `answer` then holds that number, the refusal's address and register, the record's start, end, first instruction and
-// last instruction end, and the counts of labels, pools, jump tables, inline tables and calls. No known end where `known` is 0; no check of registers
-// where `check` is 0.
+// last instruction end and how many registers its first instruction saves, and the counts of labels, pools, jump tables, inline tables and calls.
+// No known end where `known` is 0; no check of registers where `check` is 0.
 #[unsafe(no_mangle)]
 pub extern "C" fn cugbejin_run(
     base: u32,
@@ -113,7 +114,7 @@ pub extern "C" fn cugbejin_run(
     jump_tables: &mut [u32],
     inline_tables: &mut [u32],
     calls: &mut [u32],
-    answer: &mut [u64; 12],
+    answer: &mut [u64; 13],
 ) -> u32
     ensures { AnsweredIn result answer.new (lists labels.new pools.new jump_tables.new inline_tables.new calls.new) (run (options_from base module_start module_end known known_end check) code.now starts.now start (counts_of no_maps) (lists labels.old pools.old jump_tables.old inline_tables.old calls.old)) }
 {
@@ -152,7 +153,7 @@ pub extern "C" fn cugbejin_tag(
     jump_tables: &mut [u32],
     inline_tables: &mut [u32],
     calls: &mut [u32],
-    answer: &mut [u64; 12],
+    answer: &mut [u64; 13],
     percent: &mut [u64; 2],
 ) -> u32
     ensures { TaggedIn result answer.new percent.new (lists labels.new pools.new jump_tables.new inline_tables.new calls.new) (run (options_from base module_start module_end known known_end check) code.now starts.now start (counts_of no_maps) (lists labels.old pools.old jump_tables.old inline_tables.old calls.old)) (bytes_of (options_from base module_start module_end known known_end check) code.now starts.now start (counts_of no_maps) (lists labels.old pools.old jump_tables.old inline_tables.old calls.old)) }

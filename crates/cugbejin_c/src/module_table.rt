@@ -35,6 +35,7 @@ pub extern "C" fn cugbejin_append(
     end: u32,
     first_instruction: u32,
     last_instruction_end: u32,
+    saved_registers: u32,
     label_count: usize,
     pool_count: usize,
     jump_table_count: usize,
@@ -54,13 +55,14 @@ pub extern "C" fn cugbejin_append(
     table_calls: &mut [u32],
 ) -> u32
     ensures walked { lists labels.new pools.new jump_tables.new inline_tables.new calls.new ≡ lists labels.old pools.old jump_tables.old inline_tables.old calls.old }
-    ensures appends { AppendsIn result (record_by start end first_instruction last_instruction_end) (counts_by label_count pool_count jump_table_count inline_table_count call_count) (lists labels.old pools.old jump_tables.old inline_tables.old calls.old) (lent_by functions.old count (lists_by table_labels.old table_pools.old table_jump_tables.old table_inline_tables.old table_calls.old)) functions.new (lists_by table_labels.new table_pools.new table_jump_tables.new table_inline_tables.new table_calls.new) }
+    ensures appends { AppendsIn result (record_by start end first_instruction last_instruction_end saved_registers) (counts_by label_count pool_count jump_table_count inline_table_count call_count) (lists labels.old pools.old jump_tables.old inline_tables.old calls.old) (lent_by functions.old count (lists_by table_labels.old table_pools.old table_jump_tables.old table_inline_tables.old table_calls.old)) functions.new (lists_by table_labels.new table_pools.new table_jump_tables.new table_inline_tables.new table_calls.new) }
 {
     let found = Record {
         start,
         end,
         first_instruction,
         last_instruction_end,
+        saved_registers,
     };
     let counts = Counts {
         labels: label_count,

@@ -12,7 +12,7 @@ use Rattle.base.specs.declared.refusal.Refusal.TheVariants.{BadWindow, BadStart,
 use Rattle.base.specs.Words.{word_from}
 use Rattle.context.specs.Context.{Maps, Given, Context, Step}
 use Rattle.context.specs.Lists.{Lists, zeroed, places_of, given_by}
-use Rattle.context.specs.Turn.{Turned, no_maps, counts_of, context_at, closed, ending_at, settled, turn_at, turn, arm_size}
+use Rattle.context.specs.Turn.{Turned, no_maps, counts_of, context_at, closed, ending_at, settled, with_saved, turn_at, turn, arm_size}
 use Rattle.invariants.specs.Turns.{turns_from}
 use Rattle.base.proofs.ChoiceLaws.{both_true}
 use Rattle.invariants.proofs.KeptLaws.{none-fits, written-places}
@@ -66,7 +66,9 @@ module _ (before : Context) where
       record { least = leb-true _ _ range.0; most = omega (arith, leb-true (refusal_no n) 13 range.1); counted = refl; maps = refl }
 
   word_over : (x : Option ℕ) → IsOver (turn_at x before)
-  word_over (Some word) = settled-over (step-late (decode_of word before.progress.address) word arm_size before)
+  word_over (Some word) =
+      let i = decode_of word before.progress.address in
+      settled-over (step-late i word arm_size (with_saved i before))
   word_over None = record { least = omega arith; most = omega arith; counted = refl; maps = refl }
 
 module _ (g : Given) where

@@ -109,15 +109,15 @@ listed-within {input} {out} {left} {before} {r = r} {n = n} h is = go (leb room 
         rw (q, put_front) (simp length-append (omega arith))
     go false p q = let z : ◌≡◌ {A = ℕ} 0 1 = cc in absurd (omega arith)
 
--- a buffer with 45 bytes, and 40 for each of them, is never too short
-pub room_most : (l : Lists) (n : Counts) → room_for l n ≤ 45 + 40 * entries_in l
+-- a buffer with 48 bytes, and 40 for each of them, is never too short
+pub room_most : (l : Lists) (n : Counts) → room_for l n ≤ 48 + 40 * entries_in l
 unfolding room_for room_with shown
 room_most l n = omega arith
 
 -- so it has room for each for one
 pub never-short : {input out left : List ℕ} {before after : Lists} {r : Result ℕ NoRoom}
     → Listed input before after out r left
-    → 45 + 40 * entries_in after ≤ length out
+    → 48 + 40 * entries_in after ≤ length out
     → r ≡ Err no_room → ⊥
 never-short {input} {out} {before = before} {after = after} {r = r} h most = go (leb room (length out)) refl h.text.answer
   where

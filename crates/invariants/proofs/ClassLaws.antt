@@ -1,6 +1,6 @@
 -- A pool load is neither return nor entry nor branch, and an entry is no return: their classes differ.
 -- Assumes nothing.
-use Rattle.base.proofs.Prelude.{refl, ◌≡◌, true, false, Bool, not, ℕ, arith, eqb, eqb-true}
+use Rattle.base.proofs.Prelude.{◌∙◌, sym, refl, ◌≡◌, true, false, Bool, not, ℕ, arith, eqb, eqb-true}
 use Rattle.base.proofs.ChoiceLaws.{both_first, both-second}
 use Rattle.analysis.specs.Pattern.{pc}
 use Rattle.base.specs.Choice.{pick, both}
@@ -12,6 +12,7 @@ use Rattle.classes.specs.Cond.{is_cond}
 use Rattle.arm.specs.Ins.{is_conditional}
 use Rattle.predicates.specs.declared.Previous.{Previous}
 use Rattle.predicates.specs.Predicates.{has_lr, is_entry_instruction, is_branch, is_off_pc, is_pool_load, is_mov_pc, is_ldm_pc, is_pop_pc, is_branch_back}
+use Rattle.predicates.proofs.SavedLaws.{entry-is}
 use Rattle.predicates.specs.Predicates.{is_subs_pc_lr, is_ldr_pc, is_eor_pc, is_add_pc, is_return_always, is_return_after, is_return}
 
 pub same : (b : Bool) → pick b false false ≡ false
@@ -23,12 +24,9 @@ not-true true e = absurd (let z : ◌≡◌ {A = ℕ} 0 1 = cc in omega arith)
 not-true false e = refl
 
 pub entry-push : (i : Ins) → is_entry_instruction i ≡ true → is i.class Push ≡ true
-unfolding is_entry_instruction
-entry-push i e = go (is_conditional i.cond) e
-  where
-    go : (b : Bool) → pick b false (both (is i.class Push) (has_lr i.regs)) ≡ true → is i.class Push ≡ true
-    go true f = absurd (let z : ◌≡◌ {A = ℕ} 0 1 = cc in omega arith)
-    go false f = both_first (is i.class Push) (has_lr i.regs) f
+entry-push i e =
+    both_first (is i.class Push) (has_lr i.regs)
+    (both-second (not (is_conditional i.cond)) (both (is i.class Push) (has_lr i.regs)) (sym (entry-is i) ∙ e))
 
 module _ (a : ℕ) (i : Ins) (previous : Previous) where
   pub entry-no-return : is_entry_instruction i ≡ true → is_return a i previous ≡ false
@@ -53,10 +51,14 @@ module _ (i : Ins) (load : is_pool_load i ≡ true) where
       rw (class, load-target, same (is_cond i.cond Al)) (same (is_conditional i.cond))
 
   pub load-no-entry : is_entry_instruction i ≡ false
-  unfolding class_no is_entry_instruction
+  unfolding class_no
   load-no-entry =
       let class : class_no i.class ≡ class_no Ldr = eqb-true _ _ load-ldr in
-      rw class (same (is_conditional i.cond))
+      entry-is i ∙ rw class (none (not (is_conditional i.cond)))
+    where
+      none : (b : Bool) → both b false ≡ false
+      none true = refl
+      none false = refl
 
   pub load-no-branch : is_branch i ≡ false
   unfolding class_no

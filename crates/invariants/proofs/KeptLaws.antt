@@ -7,7 +7,7 @@ use Rattle.std.specs.Prelude.{Option, Some, None}
 use Rattle.base.specs.Words.{word_from}
 use Rattle.context.specs.Context.{Maps, Given, Context, Step, label_row, pool_row, table_row, call_row}
 use Rattle.context.specs.Lists.{Lists, AllHeld, maps_in, written, zeroed, places_of, given_by}
-use Rattle.context.specs.Turn.{Turned, no_maps, counts_of, context_at, closed, function_of, ending_at, settled, turn_at, turn, arm_size}
+use Rattle.context.specs.Turn.{Turned, no_maps, counts_of, context_at, closed, function_of, ending_at, settled, with_saved, turn_at, turn, arm_size}
 use Rattle.rows.specs.Order.{ascending}
 use Rattle.rows.specs.Map.{Held, encode, map_in, last_key}
 use Rattle.rows.proofs.MapLaws.{held-map, map-length, encode-map, encode-held, encode-length}
@@ -100,10 +100,10 @@ module _ (g : Given) (w : Walk) (m : Maps) where
   abbrev before : Context
   before = context_at g w m
 
-  abbrev IsSame : Context → Type 0
-  IsSame d = Same g w.progress.start d
+  abbrev IsSame : ℕ → Context → Type 0
+  IsSame saved d = Same g w.progress.start saved d
 
-  settled-fits : {s : Step} → Meets (λ _. ⊥) Sound (λ e d. Sound d) s → Meets (λ _. ⊥) IsSame (λ e d. IsSame d) s
+  settled-fits : {s : Step} {saved : ℕ} → Meets (λ _. ⊥) Sound (λ e d. Sound d) s → Meets (λ _. ⊥) (IsSame saved) (λ e d. IsSame saved d) s
       → AllFit g.places (settled before s).maps
   settled-fits (is-on q) k = absurd q
   settled-fits (has-gone q) (has-gone k) = rw (ap (λ (x : Given). x.places) k.0) at q.0
@@ -114,7 +114,7 @@ module _ (g : Given) (w : Walk) (m : Maps) where
   word_fits : Sound before → (x : Option ℕ) → AllFit g.places (turn_at x before).maps
   word_fits p (Some word) =
       let i = decode_of word w.progress.address in
-      settled-fits (step-sound i word arm_size before p) (step_same i word arm_size before)
+      settled-fits (step-sound i word arm_size (with_saved i before) p) (step_same i word arm_size (with_saved i before))
   word_fits p None = none-fits g.places
 
   -- any turn leaves maps that fit
@@ -127,13 +127,14 @@ module _ (g : Given) (w : Walk) (m : Maps) where
   sound-kept p h =
       let t = turn-onward g w m h in
       let i = decode_of t.word w.progress.address in
-      let k = gone t.to (step_same i t.word arm_size before) t.step in
-      rw t.is (rw k.0 at (gone t.to (step-sound i t.word arm_size before p) t.step))
+      let k = gone t.to (step_same i t.word arm_size (with_saved i before)) t.step in
+      rw t.is (rw k.0 at (gone t.to (step-sound i t.word arm_size (with_saved i before) p) t.step))
 
   pub start-kept : is_going (turn g w m).walk.result ≡ true → (turn g w m).walk.progress.start ≡ w.progress.start
   start-kept h =
       let t = turn-onward g w m h in
-      rw t.is (gone t.to (step_same (decode_of t.word w.progress.address) t.word arm_size before) t.step).1
+      let i = decode_of t.word w.progress.address in
+      rw t.is (gone t.to (step_same i t.word arm_size (with_saved i before)) t.step).1
 
 -- ---- a turn from a walk that passes the checks
 

@@ -10,4 +10,5 @@ pub mod SoundLaws
 pub mod TurnLaws
 pub mod KeptLaws
 pub mod EndingLaws
+pub mod SavedLaws
 pub mod StepLaws

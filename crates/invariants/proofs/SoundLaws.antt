@@ -1,5 +1,5 @@
 -- What a step keeps: each map is a map that fits its list, each pool lies in the code, the last pool is the last of them, and each register's
--- pool is one of them. What a walk is given, and its start, never change.
+-- pool is one of them. What a walk is given, its start, and what its first instruction saves, no block changes.
 -- Assumes nothing.
 use Rattle.base.proofs.Prelude.{◌∙◌, sym, refl, ◌≡◌, false, true, Bool, List, [], ◌∷◌, map, ◌≤◌, ℕ, ◌+◌, ◌*◌, max, arith, eqb, length, get_or, eq-eqb}
 use Rattle.base.proofs.Prelude.{le-leb, leb-true}
@@ -95,9 +95,9 @@ module _ (a : ℕ) {places : ℕ} {m : List (List ℕ)} (f : Fit pool_row places
 
 -- ---- what a step keeps
 
--- while the walk has what it was given, and its start
-abbrev pub Same : Given → ℕ → Context → Type 0
-Same g start c = (c.given ≡ g) × (c.progress.start ≡ start)
+-- while the walk has what it was given, its start, and what its first instruction saves
+abbrev pub Same : Given → ℕ → ℕ → Context → Type 0
+Same g start saved c = (c.given ≡ g) × (c.progress.start ≡ start) × (c.progress.saved_registers ≡ saved)
 
 abbrev pub Sound : Context → Type 0
 Sound c = AllFit c.given.places c.maps
@@ -108,8 +108,9 @@ unfolding is_whole
 whole-found code base a w e = let i = found_inside code base a w e in rw (le-leb base a i.0, le-leb (a + 4) (base + length code) i.1)
 
 module _ (i : Ins) (size : ℕ) where
-  same_kept : (g : Given) (start : ℕ) → Kept i size (Same g start) (λ c. Same g start (moved i c)) (λ e c. Same g start c)
-  same_kept g start = record {
+  same_kept : (g : Given) (start saved : ℕ)
+      → Kept i size (Same g start saved) (λ c. Same g start saved (moved i c)) (λ e c. Same g start saved c)
+  same_kept g start saved = record {
     machines = λ m c p. p;
     raises = λ d c p. p;
     tables = λ d c p. p;
@@ -220,10 +221,13 @@ module _ (i : Ins) (size : ℕ) where
   }
 
 module _ (i : Ins) (word size : ℕ) (c : Context) where
-  pub step_same : Meets (λ _. ⊥) (Same c.given c.progress.start) (λ e d. Same c.given c.progress.start d) (handle_ins i word size c)
+  abbrev IsSame : Context → Type 0
+  IsSame d = Same c.given c.progress.start c.progress.saved_registers d
+
+  pub step_same : Meets (λ _. ⊥) IsSame (λ e d. IsSame d) (handle_ins i word size c)
   step_same =
-      handle_ins-kept i size (Same c.given c.progress.start) _ _ (same_kept i size c.given c.progress.start) (λ n d h p. p) word c (refl, refl)
-      (λ n h. (refl, refl))
+      handle_ins-kept i size IsSame _ _ (same_kept i size c.given c.progress.start c.progress.saved_registers) (λ n d h p. p) word c (refl, refl, refl)
+      (λ n h. (refl, refl, refl))
 
   pub step-sound : Sound c → Meets (λ _. ⊥) Sound (λ e d. Sound d) (handle_ins i word size c)
   step-sound p = handle_ins-kept i size Sound _ _ (sound-kept i size) (λ n d h p. p) word c p (λ n h. p)

@@ -6,9 +6,8 @@ use Rattle.arm.specs.Ins.{decode_of}
 use Rattle.std.specs.Prelude.{Option, Some, None}
 use Rattle.base.specs.Choice.{pick}
 use Rattle.base.specs.Words.{word_from}
-use Rattle.context.specs.Blocks.{handle_ins}
 use Rattle.context.specs.Context.{Maps, Given, Context, Step, on, goes, ends, refuses}
-use Rattle.context.specs.Turn.{counts_of, context_at, walk_of, closed, function_of, ending_at, settled, turn_at, turn, arm_size}
+use Rattle.context.specs.Turn.{counts_of, context_at, walk_of, closed, function_of, ending_at, settled, with_saved, step_of, turn_at, turn, arm_size}
 use Rattle.stepper.specs.Stepper.{is_going}
 use Rattle.walk.specs.declared.Answer.{Answer}
 use Rattle.walk.specs.declared.Answer.TheVariants.{Going, Accepted, Refused}
@@ -37,7 +36,7 @@ pub record Onward (g : Given) (w : Walk) (m : Maps) : Type 0 where
   pub word : ℕ
   pub found : word_from g.code g.options.base w.progress.address ≡ Some word
   pub to : Context
-  pub step : handle_ins (decode_of word w.progress.address) word arm_size (context_at g w m) ≡ goes to
+  pub step : step_of (decode_of word w.progress.address) word (context_at g w m) ≡ goes to
   pub is : turn g w m ≡ walk_of Going to
 
 module _ (g : Given) (w : Walk) (m : Maps) where
@@ -49,8 +48,8 @@ module _ (g : Given) (w : Walk) (m : Maps) where
   turn-onward h = find (word_from g.code g.options.base w.progress.address) refl h
     where
       settle : (word : ℕ) → word_from g.code g.options.base w.progress.address ≡ Some word → (s : Step)
-          → handle_ins (decode_of word w.progress.address) word arm_size before ≡ s → is_going (settled before s).walk.result ≡ true → Onward g w m
-      settle word f (on c) e h = absurd (never_on (decode_of word w.progress.address) word arm_size before c e)
+          → step_of (decode_of word w.progress.address) word before ≡ s → is_going (settled before s).walk.result ≡ true → Onward g w m
+      settle word f (on c) e h = absurd (never_on (decode_of word w.progress.address) word arm_size (with_saved (decode_of word w.progress.address) before) c e)
       settle word f (goes c) e h = record {
         word = word;
         found = f;
@@ -68,14 +67,14 @@ module _ (g : Given) (w : Walk) (m : Maps) where
 
       find : (x : Option ℕ) → word_from g.code g.options.base w.progress.address ≡ x → is_going (turn_at x before).walk.result ≡ true
           → Onward g w m
-      find (Some word) f h = settle word f (handle_ins (decode_of word w.progress.address) word arm_size before) refl h
+      find (Some word) f h = settle word f (step_of (decode_of word w.progress.address) word before) refl h
       find None f h = absurd (let z : ◌≡◌ {A = ℕ} 0 1 = cc in omega arith)
 
   -- it has moved on
   pub turn-past : is_going (turn g w m).walk.result ≡ true → w.progress.address < (turn g w m).walk.progress.address
   turn-past h =
       let t = turn-onward h in
-      rw t.is (goes-past (decode_of t.word w.progress.address) t.word arm_size before t.to (omega arith) t.step)
+      rw t.is (goes-past (decode_of t.word w.progress.address) t.word arm_size (with_saved (decode_of t.word w.progress.address) before) t.to (omega arith) t.step)
 
   -- ---- a turn counts its maps
 
@@ -91,7 +90,7 @@ module _ (g : Given) (w : Walk) (m : Maps) where
   settled-counts (refuses n r) = refl
 
   word_counts : (x : Option ℕ) → (turn_at x before).walk.counts ≡ counts_of (turn_at x before).maps
-  word_counts (Some word) = settled-counts (handle_ins (decode_of word w.progress.address) word arm_size before)
+  word_counts (Some word) = settled-counts (step_of (decode_of word w.progress.address) word before)
   word_counts None = refl
 
   pub turn-counts : (turn g w m).walk.counts ≡ counts_of (turn g w m).maps

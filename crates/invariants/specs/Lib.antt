@@ -1,3 +1,4 @@
--- The turns and the steps of a walk; the steps that find a word.
+-- The turns and the steps of a walk; the steps that find a word; what a record tells of its first instruction.
 pub mod Turns
+pub mod Saved
 pub mod WordSteps

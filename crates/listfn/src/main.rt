@@ -14,7 +14,7 @@ fn list(
     jump_tables: &mut [u32; 2 * 64],
     inline_tables: &mut [u32; 2 * 64],
     calls: &mut [u32; 4 * 1024],
-    out: &mut [u8; 128045],
+    out: &mut [u8; 128048],
 ) -> io::Result<()> {
     let n = streams::read_full(from, &mut input[..])?;
     let mut lists = Lists {
@@ -37,8 +37,8 @@ fn main(rt: HostRuntime) -> io::Result<()> {
     let mut jump_tables = [0u32; 2 * 64];
     let mut inline_tables = [0u32; 2 * 64];
     let mut calls = [0u32; 4 * 1024];
-    // A first line of 45 bytes, and 40 for each entry.
-    let mut out = [0u8; 128045];
+    // A first line of 48 bytes, and 40 for each entry.
+    let mut out = [0u8; 128048];
     list(
         &mut rt.stdin(),
         &mut rt.stdout(),

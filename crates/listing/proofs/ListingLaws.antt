@@ -11,17 +11,21 @@ use Rattle.walk.specs.declared.Answer.TheVariants.{Accepted}
 use Rattle.walk.specs.declared.Counts.{Counts}
 use Rattle.walk.specs.declared.Record.{Record}
 use Rattle.words.specs.Names.{bytes}
-use Rattle.text.proofs.Hex.{hex-length}
-use Rattle.listing.specs.Lines.{field, newline, mark_of, rest_of, line_of, lines_of}
+use Rattle.text.proofs.Hex.{digits-length, hex-length}
+use Rattle.listing.specs.Lines.{field, two_digits, newline, mark_of, rest_of, line_of, lines_of}
 use Rattle.listing.specs.Listing.{record_line, list_lines, text_with, shown, text_of, Fitting}
 
 pub field-length : (v : ℕ) → length (field v) ≡ 9
 unfolding field
 field-length v = ap suc (hex-length 8 v)
 
-pub record-length : (r : Record) → length (record_line r) ≡ 45
+pub two_digits-length : (n : ℕ) → length (two_digits n) ≡ 3
+unfolding two_digits
+two_digits-length n = ap suc (digits-length 10 2 n)
+
+pub record-length : (r : Record) → length (record_line r) ≡ 48
 unfolding record_line newline bytes
-record-length r = simp (length-append, field-length) (omega arith)
+record-length r = simp (length-append, field-length, two_digits-length) (omega arith)
 
 pub shown-fits : (l : Lists) (n : Counts) → Fitting l (shown l n)
 unfolding shown
@@ -50,9 +54,15 @@ lines_more name (first ∷ rows) row = ap (λ (t : List ℕ). line_of name first
 
 -- C1's listing, with a count of nine pools in four places
 example : text_of
-    (Accepted (record { start = 0x0200_0000; end = 0x0200_000C; first_instruction = 0x0200_0000; last_instruction_end = 0x0200_0008 }))
+    (Accepted (record {
+      start = 0x0200_0000;
+      end = 0x0200_000C;
+      first_instruction = 0x0200_0000;
+      last_instruction_end = 0x0200_0008;
+      saved_registers = 0;
+    }))
     (lists [] (0x0200_0008 ∷ 0x1234_5678 ∷ other ∷ 0 ∷ []) [] [] [])
     (record { labels = 0; pools = 9; jump_tables = 0; inline_tables = 0; calls = 0 })
-    ≡ bytes "function 02000000 0200000c 02000000 02000008\npool 02000008 12345678 other\n"
-unfolding text_of text_with shown record_line list_lines lines_of line_of rest_of mark_of field newline map_in bytes hex digits hex_digit
+    ≡ bytes "function 02000000 0200000c 02000000 02000008 00\npool 02000008 12345678 other\n"
+unfolding text_of text_with shown record_line list_lines lines_of line_of rest_of mark_of field two_digits newline map_in bytes hex digits hex_digit
 example = refl

@@ -4,13 +4,17 @@ use Rattle.std.specs.Prelude.{ℕ, List, [], ◌∷◌, ◌++◌, eqb, length, g
 use Rattle.context.specs.Blocks.{call, thumb}
 use Rattle.context.specs.Context.{pool_row, table_row, call_row}
 use Rattle.rows.specs.Map.{key_of}
-use Rattle.text.specs.Hex.{hex}
+use Rattle.text.specs.Hex.{digits, hex}
 use Rattle.base.specs.Choice.{pick}
 use Rattle.words.specs.Names.{bytes}
 
 -- a space and eight digits
 unfoldable pub field : ℕ → List ℕ
 field v = 32 ∷ hex 8 v
+
+-- a space and two decimal digits
+unfoldable pub two_digits : ℕ → List ℕ
+two_digits n = 32 ∷ digits 10 2 n
 
 unfoldable pub newline : List ℕ
 newline = 10 ∷ []

@@ -10,16 +10,22 @@ use Rattle.walk.specs.declared.Answer.TheVariants.{Going, Accepted, Refused}
 use Rattle.walk.specs.declared.Counts.{Counts}
 use Rattle.walk.specs.declared.Record.{Record}
 use Rattle.words.specs.Names.{bytes}
-use Rattle.listing.specs.Lines.{field, newline, lines_of}
+use Rattle.listing.specs.Lines.{field, two_digits, newline, lines_of}
 use Rattle.listing.specs.declared.SharedLists.{SharedLists}
 
 -- what the lists hold
 abbrev pub rows_of : SharedLists → Lists
 rows_of s = lists s.labels.now s.pools.now s.jump_tables.now s.inline_tables.now s.calls.now
 
--- start, end, first instruction, last instruction end
+-- start, end, first instruction, last instruction end, how many registers the first instruction saves
 unfoldable pub record_line : Record → List ℕ
-record_line r = ((((bytes "function" ++ field r.start) ++ field r.end) ++ field r.first_instruction) ++ field r.last_instruction_end) ++ newline
+record_line r =
+    (((((bytes "function" ++ field r.start)
+    ++ field r.end)
+    ++ field r.first_instruction)
+    ++ field r.last_instruction_end)
+    ++ two_digits r.saved_registers)
+    ++ newline
 
 unfoldable pub refusal_line : ℕ → ℕ → List ℕ
 refusal_line number address = ((bytes "refused " ++ decimal number) ++ field address) ++ newline
@@ -51,9 +57,9 @@ shown l n = record {
 unfoldable pub text_of : Answer → Lists → Counts → List ℕ
 text_of answer l n = text_with answer (maps_in (shown l n) l)
 
--- how many bytes the buffer must have: 45 for the first line, and 40 for each other, the longest
+-- how many bytes the buffer must have: 48 for the first line, and 40 for each other, the longest
 unfoldable pub room_with : Counts → ℕ
-room_with n = 45 + 40 * (n.labels + n.pools + n.jump_tables + n.inline_tables + n.calls)
+room_with n = 48 + 40 * (n.labels + n.pools + n.jump_tables + n.inline_tables + n.calls)
 
 unfoldable pub room_for : Lists → Counts → ℕ
 room_for l n = room_with (shown l n)

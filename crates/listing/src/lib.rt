@@ -8,7 +8,7 @@ ghost use Rattle.base.specs.Choice.{pick};
 ghost use Rattle.base.specs.Refusals.{refusal_no};
 ghost use Rattle.text.specs.Writers.{HasRoom, Wrote};
 ghost use Rattle.words.specs.Answer.{Answered};
-ghost use Rattle.listing.specs.Lines.{field, rest_of, line_of, lines_of};
+ghost use Rattle.listing.specs.Lines.{field, two_digits, rest_of, line_of, lines_of};
 ghost use Rattle.listing.specs.Listing.{rows_of, record_line, refusal_line, list_lines, text_with, shown, text_of, room_with, room_for, Fitting};
 
 use base::refusal::Refusal;
@@ -33,6 +33,14 @@ pub fn put_field(writer: &mut Writer<'_>, value: u32)
 {
     writer.put_byte(b' ');
     writer.put_hex(8, value);
+}
+
+fn put_two_digits(writer: &mut Writer<'_>, value: u32)
+    requires { HasRoom writer.old 3 }
+    ensures { Wrote writer.old writer.new (two_digits value) × (writer.new.at ≡ writer.old.at + 3) }
+{
+    writer.put_byte(b' ');
+    writer.put_digits(2, value);
 }
 
 // The word that a number stands for: `one` at 1, `other` at any other.
@@ -84,14 +92,15 @@ fn put_lines(writer: &mut Writer<'_>, name: &[u8], list: &[u32], stride: usize, 
 }
 
 fn put_record(writer: &mut Writer<'_>, r: Record)
-    requires { HasRoom writer.old 45 }
-    ensures { Wrote writer.old writer.new (record_line r) × (writer.new.at ≡ writer.old.at + 45) }
+    requires { HasRoom writer.old 48 }
+    ensures { Wrote writer.old writer.new (record_line r) × (writer.new.at ≡ writer.old.at + 48) }
 {
     writer.put_bytes(b"function");
     put_field(writer, r.start);
     put_field(writer, r.end);
     put_field(writer, r.first_instruction);
     put_field(writer, r.last_instruction_end);
+    put_two_digits(writer, r.saved_registers);
     writer.put_byte(b'\n');
 }
 
@@ -161,7 +170,7 @@ fn has_room(places: usize, n: Counts) -> bool
     requires { n.labels + n.pools + n.jump_tables + n.inline_tables + n.calls < 2 ^ 64 }
     ensures { result ≡ leb (room_with n) places }
 {
-    let Some(left) = places.checked_sub(45) else {
+    let Some(left) = places.checked_sub(48) else {
         return false;
     };
     n.labels + n.pools + n.jump_tables + n.inline_tables + n.calls <= left / 40

@@ -9,7 +9,7 @@ use std::io::{self, Stdin, Stdout};
 
 const MOST_INPUTS: usize = 100_000_000;
 
-fn list(output: &mut Stdout, input: &[u8], out: &mut [u8; 128045]) -> io::Result<()> {
+fn list(output: &mut Stdout, input: &[u8], out: &mut [u8; 128048]) -> io::Result<()> {
     // The arrays that `listfn` has in `main`, as document 01 has them there.
     let mut labels = [0u32; 1024];
     let mut pools = [0u32; 3 * 1024];
@@ -39,7 +39,7 @@ fn list_next(
     from: &mut Stdin,
     output: &mut Stdout,
     input: &mut [u8; 16411],
-    out: &mut [u8; 128045],
+    out: &mut [u8; 128048],
 ) -> io::Result<bool> {
     let mut head = [0u8; 4];
     if streams::read_full(from, &mut head)? < 4 {
@@ -58,7 +58,7 @@ fn list_all(
     from: &mut Stdin,
     output: &mut Stdout,
     input: &mut [u8; 16411],
-    out: &mut [u8; 128045],
+    out: &mut [u8; 128048],
 ) -> io::Result<()> {
     for _ in 0..MOST_INPUTS {
         if !list_next(from, output, input, out)? {
@@ -71,6 +71,6 @@ fn list_all(
 // The buffers are lent by a function that does nothing else, since a proof about so long an array is slow.
 fn main(rt: HostRuntime) -> io::Result<()> {
     let mut input = [0u8; 16411];
-    let mut out = [0u8; 128045];
+    let mut out = [0u8; 128048];
     list_all(&mut rt.stdin(), &mut rt.stdout(), &mut input, &mut out)
 }

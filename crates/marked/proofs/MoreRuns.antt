@@ -7,7 +7,7 @@ use Rattle.walk.specs.declared.Answer.TheVariants.{Refused}
 use Rattle.walk.specs.declared.Counts.{Counts}
 use Rattle.std.specs.Prelude.{None}
 use Rattle.marked.proofs.Computing.{calls, spelled_in}
-use Rattle.marked.specs.Marked.{Marked, row, accepted, places, four_rows, given_in, expected_in, given, expected}
+use Rattle.marked.specs.Marked.{Marked, row, saving, accepted, places, four_rows, given_in, expected_in, given, expected}
 
 -- 13 as document 01 has it: C8 with no label place, refused at its first branch
 abbrev full_labels : Marked
@@ -53,6 +53,10 @@ more =
     ∷ row (0xE51F_0004 ∷ 0x0A00_0000 ∷ 0xE92D_4000 ∷ [])
     0x0200_0000 0x0200_000C None false (accepted 0x0200_0008 0x0200_0008)
     [] ((0x0200_0004 ∷ 0x0A00_0000 ∷ other ∷ []) ∷ []) [] [] []
+    -- a push of four registers with lr, which a later push of lr does not change: push {r4, r5, r6, lr}; beq 0C; pop {r4, r5, r6, pc}; push {lr}
+    ∷ row (0xE92D_4070 ∷ 0x0A00_0000 ∷ 0xE8BD_8070 ∷ 0xE92D_4000 ∷ 0xE8BD_8000 ∷ [])
+    0x0200_0000 0x0200_0014 None false (saving 4 0x0200_0014 0x0200_0014)
+    ((0x0200_000C ∷ []) ∷ []) [] [] [] []
     -- blx, and a tail call below the start
     ∷ row (0xFB00_003E ∷ 0xEAFF_FFFA ∷ [])
     0x0200_0000 0x0200_0008 None false (accepted 0x0200_0008 0x0200_0008)

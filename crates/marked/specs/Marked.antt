@@ -36,9 +36,19 @@ row words base end known check answer labels pools jumps inlines calls = record 
   maps = record { labels = labels; pools = pools; jump_tables = jumps; inline_tables = inlines; calls = calls };
 }
 
--- a record from the start at 0x02000000, with its end and its last instruction's
+-- a record from the start at 0x02000000, with its end and its last instruction's; its first instruction saves so many registers
+abbrev pub saving : ℕ → ℕ → ℕ → Answer
+saving registers end last = Accepted (record {
+  start = 0x0200_0000;
+  end = end;
+  first_instruction = 0x0200_0000;
+  last_instruction_end = last;
+  saved_registers = registers;
+})
+
+-- none of document 01's runs begins with an entry
 abbrev pub accepted : ℕ → ℕ → Answer
-accepted end last = Accepted (record { start = 0x0200_0000; end = end; first_instruction = 0x0200_0000; last_instruction_end = last })
+accepted end last = saving 0 end last
 
 -- words, base, module end, known end, check, answer; then labels (address), pools (address, value, mark), jump tables and inline tables
 -- (address, size), calls (address, word, destination, mode). A refusal has its name, address and register.

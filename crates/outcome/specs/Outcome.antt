@@ -44,7 +44,7 @@ refused_walk w n refusal a r = record {
 -- into_function, with the first pool, from the last instruction's end
 abbrev pub ends_at : Options → ℕ → ℕ → Registers → State → Walk
 ends_at o pool end g s =
-    walk_in (into_function o s.progress.start end s.progress.last_pool_address pool) g
+    walk_in (into_function o s.progress.start end s.progress.last_pool_address pool s.progress.saved_registers) g
     (progressed (moving end s.progress.previous s.progress) s)
 
 -- the code's `settle`, with the first pool

@@ -72,7 +72,14 @@ fn end_at(o: Options, s: State, registers: Registers, end: u32, pools: &Pools) -
 {
     let p = s.progress;
     let pool = first_pool(pools);
-    let result = into_function(o, p.start, end, p.last_pool_address, pool);
+    let result = into_function(
+        o,
+        p.start,
+        end,
+        p.last_pool_address,
+        pool,
+        p.saved_registers,
+    );
     let mut ended = s;
     ended.progress.address = end;
     walk_in(ended, registers, result)

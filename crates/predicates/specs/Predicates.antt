@@ -1,6 +1,6 @@
 -- functions.rs: what the walk asks of one instruction, in the source's names and order.
 -- Assumes nothing.
-use Rattle.std.specs.Prelude.{ℕ, ◌+◌, ◌/◌, ◌*◌, ◌%◌, Bool, true, false, not, eqb, ltb, leb, ℤ, pos, negsuc, ◌+ℤ◌, Option, Some, None}
+use Rattle.std.specs.Prelude.{ℕ, ◌+◌, ◌/◌, ◌*◌, ◌%◌, Bool, true, false, not, eqb, ltb, leb, count_ones, ℤ, pos, negsuc, ◌+ℤ◌, Option, Some, None}
 use Rattle.classes.specs.declared.Class.TheVariants.{B, Bl, Blx1, Bx, Push, Pop, Mov, Ldm, Stm, Sub, Ldr, Str, Eor, Add}
 use Rattle.classes.specs.declared.Cond.TheVariants.{Ne, Al}
 use Rattle.arm.specs.declared.Ins.{Ins}
@@ -29,9 +29,13 @@ has_lr regs = eqb (regs / 0x4000 % 2) 1
 abbrev pub has_pc : ℕ → Bool
 has_pc regs = eqb (regs / 0x8000 % 2) 1
 
--- Function::is_entry_instruction: an unconditional push of LR
-unfoldable pub is_entry_instruction : Ins → Bool
-is_entry_instruction i = pick (is_conditional i.cond) false (both (is i.class Push) (has_lr i.regs))
+-- Function::is_entry_instruction as a number, how many registers an unconditional push of LR saves: the ones of its list, and 0 for what is no entry
+unfoldable pub saved_registers : Ins → ℕ
+saved_registers i = pick (both (not (is_conditional i.cond)) (both (is i.class Push) (has_lr i.regs))) (count_ones i.regs) 0
+
+-- Function::is_entry_instruction
+abbrev pub is_entry_instruction : Ins → Bool
+is_entry_instruction i = ltb 0 (saved_registers i)
 
 -- Function::is_branch: B alone
 abbrev pub is_branch : Ins → Bool

@@ -2,7 +2,7 @@
 #![tactic(auto)]
 
 ghost use Rattle.std.specs.Prelude.{◌≡◌, ◌<◌, ◌/◌, ◌%◌, ◌^◌, eqb};
-ghost use Rattle.predicates.specs.Predicates.{is_entry_instruction, is_branch, is_off_pc, is_pool_load, offset_of, pool_address};
+ghost use Rattle.predicates.specs.Predicates.{saved_registers, is_branch, is_off_pc, is_pool_load, offset_of, pool_address};
 ghost use Rattle.predicates.specs.Predicates.{is_bx, is_mov_pc, is_ldm_pc, is_pop_pc, is_branch_back, is_subs_pc_lr, is_ldr_pc, is_eor_pc, is_add_pc};
 ghost use Rattle.predicates.specs.Predicates.{is_return_always, is_adds_four, is_return_after, is_return, is_nop, is_push, is_off_sp, is_stack_store, as_previous, mode_no, is_function_call};
 
@@ -41,12 +41,16 @@ fn has(regs: u16, register: u8) -> bool
     regs >> register & 1 == 1
 }
 
-// An unconditional push of LR.
-#[tactic(auto, using(classes::proofs::Numbers::same_class), unfolding(crate::specs::Predicates::is_entry_instruction))]
-pub fn is_entry_instruction(ins: Ins) -> bool
-    ensures { result ≡ is_entry_instruction ins }
+// Function::is_entry_instruction as a number: how many registers an unconditional push of LR saves, 0 for what is no entry.
+#[tactic(auto, using(classes::proofs::Numbers::same_class), unfolding(crate::specs::Predicates::saved_registers))]
+pub fn saved_registers(ins: Ins) -> u32
+    ensures { result ≡ saved_registers ins }
 {
-    !ins.is_conditional() && ins.class == Class::Push && has(ins.regs, LR)
+    if !ins.is_conditional() && ins.class == Class::Push && has(ins.regs, LR) {
+        ins.regs.count_ones()
+    } else {
+        0
+    }
 }
 
 #[tactic(auto, using(classes::proofs::Numbers::same_class))]

@@ -6,9 +6,8 @@ use Rattle.base.specs.declared.refusal.Refusal.TheVariants.{NoEpilogue}
 use Rattle.arm.specs.Ins.{decode_of}
 use Rattle.std.specs.Prelude.{Option, Some, None}
 use Rattle.base.specs.Words.{word_from}
-use Rattle.context.specs.Blocks.{handle_ins}
 use Rattle.context.specs.Context.{Maps, Given, Context, Step, on, goes, ends, refuses}
-use Rattle.context.specs.Turn.{arm_size, context_at, closed, function_of, ending_at, key_or0, settled, turn_at, turn}
+use Rattle.context.specs.Turn.{arm_size, context_at, closed, function_of, ending_at, key_or0, settled, with_saved, step_of, turn_at, turn}
 use Rattle.predicates.specs.declared.Previous.{Previous}
 use Rattle.predicates.specs.Predicates.{is_return}
 use Rattle.rows.specs.Map.{first_key}
@@ -44,10 +43,11 @@ last_of Going = 0
 last_of (Accepted r) = r.last_instruction_end
 last_of (Refused n a r) = 0
 
-record-last : (o : Options) (start last last_pool first_pool : ℕ) (r : Record) → into_function o start last last_pool first_pool ≡ Accepted r
+record-last : (o : Options) (start last last_pool first_pool saved : ℕ) (r : Record)
+    → into_function o start last last_pool first_pool saved ≡ Accepted r
     → last ≡ r.last_instruction_end
 unfolding into_function
-record-last o start last last_pool first_pool r e = step (ltb o.module_end (end_address o.known_end last last_pool)) _ refl e
+record-last o start last last_pool first_pool saved r e = step (ltb o.module_end (end_address o.known_end last last_pool)) _ refl e
   where
     step : (b : Bool) (x : Answer) → last ≡ last_of x → pick b (Refused NoEpilogue 0 0) x ≡ Accepted r → last ≡ r.last_instruction_end
     step true x f h = absurd (no_record h tt)
@@ -61,14 +61,18 @@ module _ (g : Given) (w : Walk) (m : Maps) where
   before = context_at g w m
 
   abbrev step_at : ℕ → Step
-  step_at word = handle_ins (decode_of word a) word arm_size before
+  step_at word = step_of (decode_of word a) word before
+
+  -- what handle_ins gets
+  abbrev ready : ℕ → Context
+  ready word = with_saved (decode_of word a) before
 
   -- never back
   settled-rises : (word : ℕ) (s : Step) → step_at word ≡ s → a ≤ (settled before s).walk.progress.address
-  settled-rises word (on x) e = absurd (never_on (decode_of word a) word arm_size before x e)
-  settled-rises word (goes x) e = let past = goes-past (decode_of word a) word arm_size before x (omega arith) e in omega arith
+  settled-rises word (on x) e = absurd (never_on (decode_of word a) word arm_size (ready word) x e)
+  settled-rises word (goes x) e = let past = goes-past (decode_of word a) word arm_size (ready word) x (omega arith) e in omega arith
   settled-rises word (ends end x) e =
-      rw (closed-address (function_of end x) (ending_at end x)) (above (ends_at (decode_of word a) word arm_size before end x (omega arith) e))
+      rw (closed-address (function_of end x) (ending_at end x)) (above (ends_at (decode_of word a) word arm_size (ready word) end x (omega arith) e))
     where
       above : EndsAt (decode_of word a) arm_size a end → a ≤ end
       above (inl h) = omega arith
@@ -86,10 +90,10 @@ module _ (g : Given) (w : Walk) (m : Maps) where
   -- a return is no entry, so it leads past itself
   settled-return : (word : ℕ) → IsCode a m → (p : Previous) → is_return a (decode_of word a) p ≡ true
       → (s : Step) → step_at word ≡ s → Unrefused (settled before s).walk.result → a + arm_size ≤ (settled before s).walk.progress.address
-  settled-return word code p returns (on x) e k = absurd (never_on (decode_of word a) word arm_size before x e)
-  settled-return word code p returns (goes x) e k = goes-next (decode_of word a) word arm_size before x code.pools code.tables e
+  settled-return word code p returns (on x) e k = absurd (never_on (decode_of word a) word arm_size (ready word) x e)
+  settled-return word code p returns (goes x) e k = goes-next (decode_of word a) word arm_size (ready word) x code.pools code.tables e
   settled-return word code p returns (ends end x) e k =
-      rw (closed-address (function_of end x) (ending_at end x)) (past (ends_at (decode_of word a) word arm_size before end x (omega arith) e))
+      rw (closed-address (function_of end x) (ending_at end x)) (past (ends_at (decode_of word a) word arm_size (ready word) end x (omega arith) e))
     where
       past : EndsAt (decode_of word a) arm_size a end → a + arm_size ≤ end
       past (inl h) = omega arith
@@ -111,7 +115,7 @@ module _ (g : Given) (w : Walk) (m : Maps) where
   settled-ends r (goes x) e = absurd (no_record e tt)
   settled-ends r (ends end x) e =
       closed-address (function_of end x) (ending_at end x)
-      ∙ record-last x.given.options x.progress.start end x.progress.last_pool_address (key_or0 (first_key x.maps.pools)) r
+      ∙ record-last x.given.options x.progress.start end x.progress.last_pool_address (key_or0 (first_key x.maps.pools)) x.progress.saved_registers r
       (sym (closed-result (function_of end x) (ending_at end x)) ∙ e)
   settled-ends r (refuses n k) e = absurd (no_record e tt)
 

@@ -1,10 +1,10 @@
 -- One turn that passed the checks, on two codes: the same, but for the values of pools and in registers.
 -- Assumes nothing.
-use Rattle.base.proofs.Prelude.{refl, ◌≡◌, ap, true, List, [], ◌∷◌, ◌≤◌, ℕ, ◌+◌, ◌-◌, arith, leb, length, leb-true}
+use Rattle.base.proofs.Prelude.{refl, ◌≡◌, ap, true, List, [], ◌∷◌, ◌≤◌, ℕ, ◌+◌, ◌-◌, arith, leb, ltb, length, leb-true}
 use Rattle.arm.specs.Ins.{decode_of}
 use Rattle.std.specs.Prelude.{Option, Some, None}
 use Rattle.base.specs.Words.{word_from}
-use Rattle.context.specs.Blocks.{is_entry_word, is_entry_at}
+use Rattle.context.specs.Blocks.{saved_by_word, saved_at}
 use Rattle.context.specs.Context.{pool_row}
 use Rattle.context.specs.Lists.{Lists, maps_in, written, given_by}
 use Rattle.context.specs.Turn.{arm_size, Turned, turn, key_or0}
@@ -65,9 +65,9 @@ module _ (o : Options) (starts c d : List ℕ) (longer : length c ≤ length d) 
   pub turn-long : length c ≡ length d → word_from d o.base w.progress.address ≡ word_from c o.base w.progress.address
       → word_from d o.base (w.progress.address + arm_size) ≡ word_from c o.base (w.progress.address + arm_size)
       → SameTurn c d o.base (turn_of o c starts w l) (turn_of o d starts (revalued values w) (relisted pools l))
-  unfolding is_entry_at
+  unfolding saved_at
   turn-long long here next =
-      long_same long (alike here (λ word found code p returns inside. ap (λ (y : Option ℕ). is_entry_word y (a + arm_size)) next))
+      long_same long (alike here (λ word found code p returns inside. ap (λ (y : Option ℕ). ltb 0 (saved_by_word y (a + arm_size))) next))
 
   -- on a longer code, one that is not refused, where the codes agree up to four bytes past where it leads
   module _ (from to : ℕ) (agree : Agree c d o.base from (to + 4)) (above : from ≤ w.progress.address)
@@ -83,11 +83,11 @@ module _ (o : Options) (starts c d : List ℕ) (longer : length c ≤ length d) 
 
     -- a return leads past itself
     behind : (word : ℕ) → word_from c o.base a ≡ Some word → SameBehind c d o.base a arm_size (decode_of word a) (maps_in w.counts l)
-    unfolding is_entry_at
+    unfolding saved_at
     behind word found code p returns inside =
         let past = turn-return (given_by o c starts l) w (maps_in w.counts l) word found code p returns kept in
         let start = passed.above in
-        ap (λ (y : Option ℕ). is_entry_word y (a + arm_size))
+        ap (λ (y : Option ℕ). ltb 0 (saved_by_word y (a + arm_size)))
         (same_word c d o.base longer from (to + 4) agree (a + arm_size) (record { low = omega arith; high = inside }) (omega arith) (omega arith))
 
     pub turn-same : SameTurn c d o.base (turn_of o c starts w l) (turn_of o d starts (revalued values w) (relisted pools l))

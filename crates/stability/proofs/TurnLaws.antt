@@ -11,7 +11,7 @@ use Rattle.context.specs.Blocks.{table_end_at, inline_table_at, skips_to, skip_p
 use Rattle.context.specs.Blocks.{forget_written, in_conditional_block, entry_after_branch, branch, pool_load, inline_table, function_call, check_defined}
 use Rattle.context.specs.Blocks.{from_return, to_return, handle_ins_inner, passed, handle_ins}
 use Rattle.context.specs.Context.{Maps, Given, Context, Step, on, goes, refuses, ◌▸◌, going_to, with_progress, moving, pools_to}
-use Rattle.context.specs.Turn.{arm_size, Turned, context_at, walk_of, closed, function_of, ending_at, settled, turn_at, turn}
+use Rattle.context.specs.Turn.{arm_size, Turned, context_at, walk_of, closed, function_of, ending_at, settled, with_saved, turn_at, turn}
 use Rattle.predicates.specs.declared.Previous.{Previous}
 use Rattle.predicates.specs.Predicates.{is_return, as_previous}
 use Rattle.rows.specs.Map.{stands-in}
@@ -195,7 +195,7 @@ module _ (g : Given) (c d : List ℕ) (longer : length c ≤ length d) (w : Walk
           (turn_at y (context_at (code_to d g) (revalued values w) (pools_to pools m)))
       step (Some word) e =
           settled-alike g c d at (context_at g w m) twins
-          (handle-ins g c d longer at (decode_of word at) word arm_size (context_at g w m) twins (record { at = refl; last = last }) (behind word e))
+          (handle-ins g c d longer at (decode_of word at) word arm_size (with_saved (decode_of word at) (context_at g w m)) twins (record { at = refl; last = last }) (behind word e))
       step None e = closed-alike g c d at (Refused NoEpilogue 0 0) (context_at g w m) twins
 
 -- going on, or a record

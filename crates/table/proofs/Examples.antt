@@ -20,9 +20,9 @@ example-none = refl
 -- three functions with every kind of entry, a mark that is 7, and numbers behind
 functions : List ℕ
 functions =
-    0x0200_0000 ∷ 0x0200_000C ∷ 0x0200_0000 ∷ 0x0200_0008 ∷ 1 ∷ 1 ∷ 0 ∷ 0 ∷ 0 ∷
-    0x0200_000C ∷ 0x0200_0040 ∷ 0x0200_0010 ∷ 0x0200_0038 ∷ 2 ∷ 2 ∷ 1 ∷ 1 ∷ 2 ∷
-    0x0200_0040 ∷ 0x0200_0044 ∷ 0x0200_0040 ∷ 0x0200_0044 ∷ 0 ∷ 0 ∷ 0 ∷ 0 ∷ 0 ∷ 7 ∷ []
+    0x0200_0000 ∷ 0x0200_000C ∷ 0x0200_0000 ∷ 0x0200_0008 ∷ 3 ∷ 1 ∷ 1 ∷ 0 ∷ 0 ∷ 0 ∷
+    0x0200_000C ∷ 0x0200_0040 ∷ 0x0200_0010 ∷ 0x0200_0038 ∷ 9 ∷ 2 ∷ 2 ∷ 1 ∷ 1 ∷ 2 ∷
+    0x0200_0040 ∷ 0x0200_0044 ∷ 0x0200_0040 ∷ 0x0200_0044 ∷ 0 ∷ 0 ∷ 0 ∷ 0 ∷ 0 ∷ 0 ∷ 7 ∷ []
 
 lists : Lists
 lists = record {
@@ -77,7 +77,7 @@ example-short = refl
 
 -- a length that does not fit four bytes by its counts: one function of 2 ^ 30 labels, in lists that have them
 row : List ℕ
-row = 0 ∷ 0 ∷ 0 ∷ 0 ∷ 0x4000_0000 ∷ 0 ∷ 0 ∷ 0 ∷ 0 ∷ []
+row = 0 ∷ 0 ∷ 0 ∷ 0 ∷ 0 ∷ 0x4000_0000 ∷ 0 ∷ 0 ∷ 0 ∷ 0 ∷ []
 
 example-long : (l : Lists) (places : ℕ) → fits_lists (row ∷ []) l ≡ true → fits (functions_in (row ∷ []) l) places ≡ false
 unfolding row fits rows_len

@@ -7,6 +7,7 @@ use Rattle.std.proofs.lemmas.List.{take_all, take_more, length-map}
 use Rattle.std.specs.List.{flat_map, sum_by}
 use Rattle.std.proofs.lemmas.List.Sums.{sum_by-cons, sum_by_push}
 use Rattle.std.specs.Simd.{first_chunks}
+use Rattle.std.proofs.lemmas.Grind.{flat_map-append}
 use Rattle.std.proofs.lemmas.List.Folds.{flat_map-map}
 use native.Mathlib.Nat.{mul-div_cancel}
 use Rattle.base.specs.Choice.{pick}
@@ -18,10 +19,10 @@ use Rattle.text.specs.Writers.{HasRoom}
 use Rattle.table.proofs.Pieces.{room_first}
 use Rattle.table.specs.Table.{Function}
 use Rattle.table.specs.Split.{Cut, Split, rows_in, fits_row}
-use Rattle.table.specs.Held.{function_row, label_row, pool_row, jump_table_row, inline_table_row, call_row, labels_at, pools_at, jump_tables_at, inline_tables_at}
+use Rattle.table.specs.Held.{function_row, label_row, pool_row, jump_table_row, inline_table_row, call_row, saved_registers_at, labels_at, pools_at, jump_tables_at, inline_tables_at}
 use Rattle.table.specs.Held.{Lists, flag, flagged, function_in, functions_in, past, fits_lists}
 use Rattle.table.specs.File.{number, numbers, entry, entries, heading, function, body}
-use Rattle.table.specs.Own.{Own, flags, entries_in, row_len, rows_len}
+use Rattle.table.specs.Own.{Own, heading_in, flags, entries_in, row_len, rows_len}
 use Rattle.table.proofs.HeldLaws.{map_in-front, fits-lists-split}
 
 pub number-length : (n : ℕ) → length (number n) ≡ 4
@@ -72,17 +73,29 @@ rows-own k n list some e = rw (e, mul-div_cancel n some)
 plain-own : (k n : ℕ) (list : List ℕ) → 0 < k → length list ≡ n * k → entries_in k k list ≡ entries k (map_in k n list)
 plain-own k n list some e = rw (rows-own k n list some e, flagged-wide k (map_in k n list) (map-wide k n list (omega arith)))
 
--- a row is its nine numbers
-nine : (row : List ℕ) → length row ≡ function_row → row
+-- a row without its saved registers is its nine other numbers
+nine : (row : List ℕ) → length row ≡ function_row → heading_in row
     ≡ get_or row 0 0 ∷ get_or row 1 0 ∷ get_or row 2 0 ∷ get_or row 3 0
-    ∷ get_or row 4 0 ∷ get_or row 5 0 ∷ get_or row 6 0 ∷ get_or row 7 0 ∷ get_or row 8 0 ∷ []
-nine (a ∷ b ∷ c ∷ d ∷ e ∷ f ∷ g ∷ h ∷ i ∷ []) l = refl
+    ∷ get_or row 5 0 ∷ get_or row 6 0 ∷ get_or row 7 0 ∷ get_or row 8 0 ∷ get_or row 9 0 ∷ []
+nine (a ∷ b ∷ c ∷ d ∷ s ∷ e ∷ f ∷ g ∷ h ∷ i ∷ []) l = refl
 nine _ l = absurd (omega arith)
 
-pub heading-own : (row : List ℕ) (l : Lists) → length row ≡ function_row → heading (function_in row l) ≡ row
+pub heading-own : (row : List ℕ) (l : Lists) → length row ≡ function_row → heading (function_in row l) ≡ heading_in row
 unfolding heading function_in
 heading-own row l e =
     simp (map-length, length-map) (sym (nine row e))
+
+heading-length : (f : Function) → length (heading f) ≡ 9
+unfolding heading
+heading-length f = refl
+
+-- the numbers before the saved registers, and those behind them
+pub heading-numbers : (row : List ℕ) → length row ≡ function_row
+    → numbers (heading_in row) ≡ numbers (take saved_registers_at row) ++ numbers (take 5 (drop labels_at row))
+unfolding numbers
+heading-numbers row e =
+    let all : take 5 (drop labels_at row) ≡ drop labels_at row = take_all 5 (drop labels_at row) (rw length-drop (omega (arith, e))) in
+    rw all (flat_map-append number (take saved_registers_at row) (drop labels_at row))
 
 pub numbers_long : (ns : List ℕ) → length (numbers ns) ≡ 4 * length ns
 unfolding numbers
@@ -91,7 +104,7 @@ numbers_long ns = numbers-length ns
 -- a function's text from its row and its lists
 pub function-own : (row : List ℕ) (l : Lists) → length row ≡ function_row → Own row l
     → function (function_in row l)
-    ≡ ((((numbers row ++ entries_in label_row 1 l.labels) ++ entries_in pool_row 2 l.pools) ++ entries_in jump_table_row 2 l.jump_tables)
+    ≡ ((((numbers (heading_in row) ++ entries_in label_row 1 l.labels) ++ entries_in pool_row 2 l.pools) ++ entries_in jump_table_row 2 l.jump_tables)
     ++ entries_in inline_table_row 2 l.inline_tables) ++ entries_in call_row 3 l.calls
 unfolding function function_in
 function-own row l e own =
@@ -106,22 +119,23 @@ function-own row l e own =
 
 -- each of its pieces has room where all have
 pub record FunctionRoom (w : Writer) (row : List ℕ) (l : Lists) : Type 0 where
-  pub nine : HasRoom w (4 * length row)
-  pub labels : HasRoom w (length (numbers row ++ entries_in label_row 1 l.labels))
-  pub pools : HasRoom w (length ((numbers row ++ entries_in label_row 1 l.labels) ++ entries_in pool_row 2 l.pools))
-  pub jump_tables : HasRoom w (length (((numbers row ++ entries_in label_row 1 l.labels) ++ entries_in pool_row 2 l.pools) ++ entries_in jump_table_row 2 l.jump_tables))
-  pub inline_tables : HasRoom w (length ((((numbers row ++ entries_in label_row 1 l.labels) ++ entries_in pool_row 2 l.pools) ++ entries_in jump_table_row 2 l.jump_tables) ++ entries_in inline_table_row 2 l.inline_tables))
-  pub calls : HasRoom w (length (((((numbers row ++ entries_in label_row 1 l.labels) ++ entries_in pool_row 2 l.pools) ++ entries_in jump_table_row 2 l.jump_tables) ++ entries_in inline_table_row 2 l.inline_tables) ++ entries_in call_row 3 l.calls))
+  pub heading : HasRoom w 36
+  pub labels : HasRoom w (length (numbers (heading_in row) ++ entries_in label_row 1 l.labels))
+  pub pools : HasRoom w (length ((numbers (heading_in row) ++ entries_in label_row 1 l.labels) ++ entries_in pool_row 2 l.pools))
+  pub jump_tables : HasRoom w (length (((numbers (heading_in row) ++ entries_in label_row 1 l.labels) ++ entries_in pool_row 2 l.pools) ++ entries_in jump_table_row 2 l.jump_tables))
+  pub inline_tables : HasRoom w (length ((((numbers (heading_in row) ++ entries_in label_row 1 l.labels) ++ entries_in pool_row 2 l.pools) ++ entries_in jump_table_row 2 l.jump_tables) ++ entries_in inline_table_row 2 l.inline_tables))
+  pub calls : HasRoom w (length (((((numbers (heading_in row) ++ entries_in label_row 1 l.labels) ++ entries_in pool_row 2 l.pools) ++ entries_in jump_table_row 2 l.jump_tables) ++ entries_in inline_table_row 2 l.inline_tables) ++ entries_in call_row 3 l.calls))
 
 pub function-room : (w : Writer) (row : List ℕ) (l : Lists) → length row ≡ function_row → Own row l → HasRoom w (length (function (function_in row l))) → FunctionRoom w row l
 function-room w row l e own room =
     let calls = rw (function-own row l e own) at room in
+    let long : length (heading_in row) ≡ 9 = ap length (sym (heading-own row l e)) ∙ heading-length (function_in row l) in
     let inline_tables = room_first w _ (entries_in call_row 3 l.calls) calls in
     let jump_tables = room_first w _ (entries_in inline_table_row 2 l.inline_tables) inline_tables in
     let pools = room_first w _ (entries_in jump_table_row 2 l.jump_tables) jump_tables in
     let labels = room_first w _ (entries_in pool_row 2 l.pools) pools in
     record {
-      nine = rw numbers_long at (room_first w (numbers row) (entries_in label_row 1 l.labels) labels);
+      heading = rw (numbers_long, long) at (room_first w (numbers (heading_in row)) (entries_in label_row 1 l.labels) labels);
       labels = labels;
       pools = pools;
       jump_tables = jump_tables;
@@ -222,10 +236,6 @@ with-flags-length : (k n c : ℕ) (list : List ℕ) → n ≤ k → leb (c * k) 
 with-flags-length k n c list low h =
     entries-length k n (map (flagged n) (map_in k c list)) low (flagged-kept k n _ (map-wide k c list (leb-true _ _ h)))
     ∙ rw (length-map, map-length)
-
-heading-length : (f : Function) → length (heading f) ≡ 9
-unfolding heading
-heading-length f = refl
 
 pub function-length : (row : List ℕ) (l : Lists) → fits_row row l ≡ true → length (function (function_in row l)) ≡ row_len row
 unfolding fits_row function function_in

@@ -25,7 +25,7 @@ entry n row = numbers (take n row) ++ drop n row
 unfoldable pub entries : ℕ → List (List ℕ) → List ℕ
 entries n rows = flat_map (entry n) rows
 
--- four addresses, five counts, and the entries
+-- four addresses, five counts, and the entries. How many registers a function saves is no part of the file
 unfoldable pub heading : Function → List ℕ
 heading f =
     f.start ∷ f.end ∷ f.first_instruction ∷ f.last_instruction_end

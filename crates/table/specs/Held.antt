@@ -9,10 +9,10 @@ use Rattle.table.specs.Table.{Function, is_ascending}
 use Rattle.table.specs.declared.Entries.{Entries}
 use Rattle.table.specs.declared.Table.{Table}
 
--- the numbers in a row. functions: start, end, first instruction, last instruction end; counts of labels, pools, jump tables, inline tables
--- and calls
+-- the numbers in a row. functions: start, end, first instruction, last instruction end; saved registers; counts of labels, pools, jump
+-- tables, inline tables and calls
 abbrev pub function_row : ℕ
-function_row = 9
+function_row = 10
 
 abbrev pub label_row : ℕ
 label_row = 1
@@ -29,24 +29,27 @@ inline_table_row = 2
 abbrev pub call_row : ℕ
 call_row = 4
 
--- the places of a function's first instruction and its counts in its row
+-- the places of a function's first instruction, its saved registers and its counts in its row
 abbrev pub first_instruction_at : ℕ
 first_instruction_at = 2
 
+abbrev pub saved_registers_at : ℕ
+saved_registers_at = 4
+
 abbrev pub labels_at : ℕ
-labels_at = 4
+labels_at = 5
 
 abbrev pub pools_at : ℕ
-pools_at = 5
+pools_at = 6
 
 abbrev pub jump_tables_at : ℕ
-jump_tables_at = 6
+jump_tables_at = 7
 
 abbrev pub inline_tables_at : ℕ
-inline_tables_at = 7
+inline_tables_at = 8
 
 abbrev pub calls_at : ℕ
-calls_at = 8
+calls_at = 9
 
 -- the entries of functions, one after another
 pub record Lists : Type 0 where
@@ -74,6 +77,7 @@ function_in row l = record {
   end = get_or row 1 0;
   first_instruction = get_or row first_instruction_at 0;
   last_instruction_end = get_or row 3 0;
+  saved_registers = get_or row saved_registers_at 0;
   labels = map_in label_row (get_or row labels_at 0) l.labels;
   pools = map (flagged 2) (map_in pool_row (get_or row pools_at 0) l.pools);
   jump_tables = map_in jump_table_row (get_or row jump_tables_at 0) l.jump_tables;

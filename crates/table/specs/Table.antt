@@ -1,4 +1,4 @@
--- A module's table: a list of functions, each with its four addresses and its own entries.
+-- A module's table: a list of functions, each with its four addresses, how many registers it saves, and its own entries.
 -- Assumes nothing.
 use Rattle.std.specs.Prelude.{Bool, List, ℕ, map}
 use Rattle.std.specs.List.{list_all}
@@ -13,6 +13,7 @@ pub record Function : Type 0 where
   pub end : ℕ
   pub first_instruction : ℕ
   pub last_instruction_end : ℕ
+  pub saved_registers : ℕ
   pub labels : List (List ℕ)
   pub pools : List (List ℕ)
   pub jump_tables : List (List ℕ)

@@ -5,7 +5,7 @@ ghost use Rattle.table.specs.File.{Filed};
 ghost use Rattle.table.specs.Own.{row_len, rows_len, body_within};
 
 use crate::put::{put_functions, put_number};
-use crate::{Row, Table};
+use crate::{CALLS_AT, INLINE_TABLES_AT, JUMP_TABLES_AT, LABELS_AT, POOLS_AT, Row, Table};
 use base::refusal::Refusal;
 use text::Writer;
 
@@ -15,12 +15,11 @@ const VERSION: u8 = 1;
 fn row_len(row: &Row) -> usize
     ensures { result ≡ row_len row.now }
 {
-    let [_, _, _, _, labels, pools, jump_tables, inline_tables, calls] = *row;
-    36 + 4 * labels as usize
-        + 9 * pools as usize
-        + 8 * jump_tables as usize
-        + 8 * inline_tables as usize
-        + 13 * calls as usize
+    36 + 4 * row[LABELS_AT] as usize
+        + 9 * row[POOLS_AT] as usize
+        + 8 * row[JUMP_TABLES_AT] as usize
+        + 8 * row[INLINE_TABLES_AT] as usize
+        + 13 * row[CALLS_AT] as usize
 }
 
 // How many bytes follow the length, or the highest number where they are more.

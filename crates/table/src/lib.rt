@@ -13,10 +13,10 @@ ghost use Rattle.table.specs.Split.{Cut, Split, fits_row, rows_in, lists_rise, f
 
 use rows::order::is_ascending;
 
-// The numbers in a row of each list. A function: start, end, first instruction, last instruction end; counts of labels, pools, jump tables,
-// inline tables and calls. A label: address. A pool: address, value, mark. A jump or an inline table: address, size. A call: address, word,
-// destination, mode.
-pub const FUNCTION_ROW: usize = 9;
+// The numbers in a row of each list. A function: start, end, first instruction, last instruction end; saved registers; counts of labels, pools,
+// jump tables, inline tables and calls. A label: address. A pool: address, value, mark. A jump or an inline table: address, size. A call: address,
+// word, destination, mode.
+pub const FUNCTION_ROW: usize = 10;
 
 pub const LABEL_ROW: usize = 1;
 
@@ -28,18 +28,20 @@ pub const INLINE_TABLE_ROW: usize = 2;
 
 pub const CALL_ROW: usize = 4;
 
-// Where a function's row has its first instruction, and its counts.
+// Where a function's row has its first instruction, how many registers it saves, and its counts.
 pub const FIRST_INSTRUCTION_AT: usize = 2;
 
-pub const LABELS_AT: usize = 4;
+pub const SAVED_REGISTERS_AT: usize = 4;
 
-pub const POOLS_AT: usize = 5;
+pub const LABELS_AT: usize = 5;
 
-pub const JUMP_TABLES_AT: usize = 6;
+pub const POOLS_AT: usize = 6;
 
-pub const INLINE_TABLES_AT: usize = 7;
+pub const JUMP_TABLES_AT: usize = 7;
 
-pub const CALLS_AT: usize = 8;
+pub const INLINE_TABLES_AT: usize = 8;
+
+pub const CALLS_AT: usize = 9;
 
 // The entries of functions.
 #[derive(Clone, Copy)]
@@ -75,12 +77,15 @@ impl<'a> Entries<'a> {
     pub(crate) fn split(self, row: &Row) -> Option<(Entries<'a>, Entries<'a>)>
         ensures { MatchOption result (fits_row row.now (lists_of self.entry) ≡ false) (λ p. Split row.now (lists_of self.entry) (lists_of p.0) (lists_of p.1)) }
     {
-        let [_, _, _, _, labels, pools, jump_tables, inline_tables, calls] = *row;
-        let labels = split_rows(self.labels, LABEL_ROW, labels)?;
-        let pools = split_rows(self.pools, POOL_ROW, pools)?;
-        let jump_tables = split_rows(self.jump_tables, JUMP_TABLE_ROW, jump_tables)?;
-        let inline_tables = split_rows(self.inline_tables, INLINE_TABLE_ROW, inline_tables)?;
-        let calls = split_rows(self.calls, CALL_ROW, calls)?;
+        let labels = split_rows(self.labels, LABEL_ROW, row[LABELS_AT])?;
+        let pools = split_rows(self.pools, POOL_ROW, row[POOLS_AT])?;
+        let jump_tables = split_rows(self.jump_tables, JUMP_TABLE_ROW, row[JUMP_TABLES_AT])?;
+        let inline_tables = split_rows(
+            self.inline_tables,
+            INLINE_TABLE_ROW,
+            row[INLINE_TABLES_AT],
+        )?;
+        let calls = split_rows(self.calls, CALL_ROW, row[CALLS_AT])?;
         let own = Entries {
             labels: labels.0,
             pools: pools.0,

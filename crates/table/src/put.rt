@@ -3,9 +3,12 @@ ghost use Rattle.std.specs.Prelude.{◌≡◌, ◌*◌, ◌≤◌, ◌<◌, leng
 ghost use Rattle.text.specs.Writers.{HasRoom, Wrote};
 ghost use Rattle.table.specs.Held.{function_row, lists_of, function_in, functions_in, fits_lists};
 ghost use Rattle.table.specs.File.{number, numbers, function};
-ghost use Rattle.table.specs.Own.{Own, flags, entries_in, functions};
+ghost use Rattle.table.specs.Own.{Own, heading_in, flags, entries_in, functions};
 
-use crate::{CALL_ROW, Entries, INLINE_TABLE_ROW, JUMP_TABLE_ROW, LABEL_ROW, POOL_ROW, Row};
+use crate::{
+    CALL_ROW, Entries, INLINE_TABLE_ROW, JUMP_TABLE_ROW, LABEL_ROW, LABELS_AT, POOL_ROW, Row,
+    SAVED_REGISTERS_AT,
+};
 use text::Writer;
 
 // Four bytes, the highest first.
@@ -23,6 +26,15 @@ fn put_numbers(writer: &mut Writer<'_>, values: &[u32])
     for value in values {
         put_number(writer, *value);
     }
+}
+
+// A function's addresses and counts. The file leaves out how many registers it saves.
+fn put_heading(writer: &mut Writer<'_>, row: &Row)
+    requires { HasRoom writer.old 36 }
+    ensures { Wrote writer.old writer.new (numbers (heading_in row.now)) }
+{
+    put_numbers(writer, &row[..SAVED_REGISTERS_AT]);
+    put_numbers(writer, &row[LABELS_AT..]);
 }
 
 // A byte for each flag.
@@ -53,7 +65,7 @@ fn put_function(writer: &mut Writer<'_>, row: &Row, own: Entries<'_>)
     requires { Own row.now (lists_of own) × HasRoom writer.old (length (function (function_in row.now (lists_of own)))) }
     ensures { Wrote writer.old writer.new (function (function_in row.now (lists_of own.entry))) }
 {
-    put_numbers(writer, row);
+    put_heading(writer, row);
     put_entries::<LABEL_ROW>(writer, own.labels, 1);
     put_entries::<POOL_ROW>(writer, own.pools, 2);
     put_entries::<JUMP_TABLE_ROW>(writer, own.jump_tables, 2);

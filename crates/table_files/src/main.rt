@@ -22,7 +22,7 @@ fn make(
     let mut jump_tables = [0u32; 2 * 64];
     let mut inline_tables = [0u32; 2 * 64];
     let mut calls = [0u32; 4 * 1024];
-    let mut functions = [0u32; 9 * 256];
+    let mut functions = [0u32; 10 * 256];
     let mut table_labels = [0u32; 1024];
     let mut table_pools = [0u32; 3 * 1024];
     let mut table_jump_tables = [0u32; 2 * 64];

@@ -1,12 +1,12 @@
 -- What stands first in bytes, read back: a function, and functions.
 -- Assumes nothing.
-use Rattle.base.proofs.Prelude.{◌∙◌, sym, refl, ◌≡◌, List, [], ◌∷◌, ◌++◌, append_assoc, ◌≤◌, ℕ, arith, length}
+use Rattle.base.proofs.Prelude.{◌∙◌, sym, refl, ◌≡◌, List, [], ◌∷◌, ◌++◌, map, append_assoc, ◌≤◌, ℕ, arith, length}
 use Rattle.std.specs.List.{flat_map}
 use Rattle.rows.specs.Map.{Wide}
 use Rattle.table.specs.Table.{Function}
 use Rattle.table.specs.Held.{label_row, pool_row, jump_table_row, inline_table_row, call_row}
 use Rattle.table.specs.File.{numbers, entries, heading, function}
-use Rattle.table_laws.specs.Files.{Words}
+use Rattle.table_laws.specs.Files.{Words, unsaved}
 use Rattle.table_laws.proofs.BytesLaws.{Apart, numbers-apart, RowWords, entries-apart}
 
 -- rows of k numbers of 32 bits
@@ -30,12 +30,14 @@ list-apart {k} n rs qs low e v w h = entries-apart k n rs qs low e v.wide w.wide
 in_order : (n a b c d e s : List ℕ) → (((((n ++ a) ++ b) ++ c) ++ d) ++ e) ++ s ≡ n ++ (a ++ (b ++ (c ++ (d ++ (e ++ s)))))
 in_order n a b c d e s = simp append_assoc
 
+-- a function but for its saved registers
 function_of : ℕ → ℕ → ℕ → ℕ → List (List ℕ) → List (List ℕ) → List (List ℕ) → List (List ℕ) → List (List ℕ) → Function
 function_of a b c d l p j i k = record {
   start = a;
   end = b;
   first_instruction = c;
   last_instruction_end = d;
+  saved_registers = 0;
   labels = l;
   pools = p;
   jump_tables = j;
@@ -73,7 +75,7 @@ unfolding heading
 headings f g = refl
 
 same_function : (f g : Function) → Heads f g → f.labels ≡ g.labels → f.pools ≡ g.pools → f.jump_tables ≡ g.jump_tables
-    → f.inline_tables ≡ g.inline_tables → f.calls ≡ g.calls → f ≡ g
+    → f.inline_tables ≡ g.inline_tables → f.calls ≡ g.calls → unsaved f ≡ unsaved g
 unfolding function_of
 same_function f g h l p j i k =
     let same : function_of f.start f.end f.first_instruction f.last_instruction_end f.labels f.pools f.jump_tables f.inline_tables f.calls
@@ -81,7 +83,7 @@ same_function f g h l p j i k =
     rw (h.start, h.end, h.first_instruction, h.last_instruction_end, l, p, j, i, k) in
     same
 
-pub function-apart : (f g : Function) {s t : List ℕ} → Fits f → Fits g → function f ++ s ≡ function g ++ t → Apart f g s t
+pub function-apart : (f g : Function) {s t : List ℕ} → Fits f → Fits g → function f ++ s ≡ function g ++ t → Apart (unsaved f) (unsaved g) s t
 unfolding function
 function-apart f g {s} {t} v w h =
     let parts = sym (in_order (numbers (heading f)) (entries 1 f.labels) (entries 2 f.pools) (entries 2 f.jump_tables) (entries 2 f.inline_tables) (entries 3 f.calls) s)
@@ -100,13 +102,11 @@ AllFit [] = Unit {0}
 AllFit (f ∷ fs) = Fits f × AllFit fs
 
 pub functions-apart : (fs gs : List Function) {s t : List ℕ} → length fs ≡ length gs → AllFit fs → AllFit gs
-    → flat_map function fs ++ s ≡ flat_map function gs ++ t → Apart fs gs s t
+    → flat_map function fs ++ s ≡ flat_map function gs ++ t → Apart (map unsaved fs) (map unsaved gs) s t
 functions-apart [] [] e v w h = record { first = refl; rest = h }
 functions-apart [] (g ∷ gs) e v w h = absurd (omega arith)
 functions-apart (f ∷ fs) [] e v w h = absurd (omega arith)
 functions-apart (f ∷ fs) (g ∷ gs) {s} {t} e v w h =
     let head = function-apart f g v.0 w.0 (sym (append_assoc (function f) (flat_map function fs) s) ∙ h ∙ append_assoc (function g) (flat_map function gs) t) in
     let tail = functions-apart fs gs (omega arith) v.1 w.1 head.rest in
-    let here : f ≡ g = head.first in
-    let more : fs ≡ gs = tail.first in
-    record { first = cc; rest = tail.rest }
+    record { first = rw (head.first, tail.first); rest = tail.rest }

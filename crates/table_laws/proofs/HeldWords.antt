@@ -8,7 +8,7 @@ use Rattle.base.proofs.ChoiceLaws.{both_first, both-second}
 use Rattle.rows.specs.Map.{map_in, Wide}
 use Rattle.rows.proofs.MapLaws.{map-wide}
 use Rattle.table.specs.declared.Table.{Table}
-use Rattle.table.specs.Held.{function_row, label_row, pool_row, jump_table_row, inline_table_row, call_row, labels_at, pools_at, jump_tables_at, inline_tables_at}
+use Rattle.table.specs.Held.{function_row, label_row, pool_row, jump_table_row, inline_table_row, call_row, saved_registers_at, labels_at, pools_at, jump_tables_at, inline_tables_at}
 use Rattle.table.specs.Held.{Lists, lists_of, flag, flagged, function_in, past, functions_in, fits_lists, is_sound, held_by, sound}
 use Rattle.table.specs.Split.{fits_row}
 use Rattle.table.specs.File.{body, fits, answer}
@@ -75,7 +75,7 @@ words-past row l w = record {
 
 function-fits : (row : List ℕ) (l : Lists) → length row ≡ function_row → Words row → fits_row row l ≡ true → ListWords l → Fits (function_in row l)
 unfolding fits_row function_in
-function-fits row l nine v e w =
+function-fits row l ten v e w =
     let labels = both_first _ _ e in
     let four = both-second (leb (get_or row labels_at 0 * label_row) (length l.labels)) _ e in
     let pools = both_first _ _ four in
@@ -85,7 +85,7 @@ function-fits row l nine v e w =
     let inlines = both_first _ _ two in
     let calls = both-second (leb (get_or row inline_tables_at 0 * inline_table_row) (length l.inline_tables)) _ two in
     record {
-      heading = rw (heading-own row l nine) v;
+      heading = rw (heading-own row l ten) (words-append _ _ (words-take saved_registers_at row v) (words-drop labels_at row v));
       labels = narrow label_row _ l.labels labels w.labels;
       pools = narrow-flagged pool_row 2 _ (narrow pool_row _ l.pools pools w.pools);
       jump_tables = narrow jump_table_row _ l.jump_tables jumps w.jump_tables;
@@ -95,10 +95,10 @@ function-fits row l nine v e w =
 
 all-fit : (rows : List (List ℕ)) (l : Lists) → Wide function_row rows → RowWords rows → fits_lists rows l ≡ true → ListWords l → AllFit (functions_in rows l)
 unfolding functions_in
-all-fit [] l nine v e w = tt
-all-fit (row ∷ rows) l nine v e w =
+all-fit [] l ten v e w = tt
+all-fit (row ∷ rows) l ten v e w =
     let parts = fits-next row rows l e in
-    (function-fits row l nine.0 v.0 parts.0 w, all-fit rows (past row l) nine.1 v.1 parts.1 (words-past row l w))
+    (function-fits row l ten.0 v.0 parts.0 w, all-fit rows (past row l) ten.1 v.1 parts.1 (words-past row l w))
 
 -- ---- a table that is written
 
@@ -122,11 +122,11 @@ known t places a =
     let short = ltb-true _ _ (both_first (ltb (length (body (held_by t))) (2 ^ 32)) _ parts.1) in
     let room : leb (t.count * function_row) (length t.functions.now) ≡ true = both_first _ _ parts.0 in
     let have : fits_lists rows l ≡ true = both_first (fits_lists rows l) _ (both-second (leb (t.count * function_row) (length t.functions.now)) _ parts.0) in
-    let nine = narrow function_row t.count t.functions.now room a.words.functions in
+    let ten = narrow function_row t.count t.functions.now room a.words.functions in
     let long = body_long rows l have in
     let many = functions-length rows l in
     record {
-      fit = all-fit rows l nine.wide nine.words have (record { labels = a.words.labels; pools = a.words.pools; jump_tables = a.words.jump_tables; inline_tables = a.words.inline_tables; calls = a.words.calls });
+      fit = all-fit rows l ten.wide ten.words have (record { labels = a.words.labels; pools = a.words.pools; jump_tables = a.words.jump_tables; inline_tables = a.words.inline_tables; calls = a.words.calls });
       few = omega (arith, short, long, many, rows-many rows);
       short = short;
     }

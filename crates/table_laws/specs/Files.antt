@@ -1,11 +1,12 @@
--- What a file tells of its table: files are equal exactly where tables are, a file has the length that it says, and what stands behind a
--- table is no part of it.
+-- What a file tells of its table: files are equal exactly where tables are, but for how many registers a function saves; a file has the
+-- length that it says; and what stands behind a table is no part of it.
 -- Assumes nothing.
-use Rattle.std.specs.Prelude.{◌≡◌, ◌↔◌, List, [], ◌∷◌, ℕ, ◌+◌, ◌*◌, ◌<◌, ◌^◌, length, get_or, take, Ok}
+use Rattle.std.specs.Prelude.{◌≡◌, ◌↔◌, List, [], ◌∷◌, ℕ, ◌+◌, ◌*◌, ◌<◌, ◌^◌, length, get_or, take, map, Ok}
 use Rattle.std.specs.Int.{w32, from_be_bytes}
 use Rattle.std.specs.List.{sum_by}
 use Rattle.rows.specs.Map.{map_in}
 use Rattle.table.specs.declared.Table.{Table}
+use Rattle.table.specs.Table.{Function}
 use Rattle.table.specs.File.{file_of, answer}
 use Rattle.table.specs.Held.{function_row, label_row, pool_row, jump_table_row, inline_table_row, call_row, labels_at, pools_at, jump_tables_at, inline_tables_at, calls_at, held_by, sound}
 
@@ -28,11 +29,15 @@ pub record Accepted (t : Table) (places : ℕ) : Type 0 where
   pub bytes : ℕ
   pub written : answer t places ≡ Ok bytes
 
--- files are equal exactly where tables are
+-- a function but for how many registers it saves
+abbrev pub unsaved : Function → Function
+unsaved f = record f { saved_registers = 0 }
+
+-- files are equal exactly where tables are but for that
 abbrev pub SameFiles : Type 0
 SameFiles =
     (t u : Table) (m n : ℕ) → Accepted t m → Accepted u n
-    → (file_of (held_by t) ≡ file_of (held_by u)) ↔ (held_by t ≡ held_by u)
+    → (file_of (held_by t) ≡ file_of (held_by u)) ↔ (map unsaved (held_by t) ≡ map unsaved (held_by u))
 
 -- a file's first four bytes say how many follow
 abbrev pub SaysLength : Type 0

@@ -6,10 +6,10 @@ use append::TableMut;
 use std::io::{self, Stderr, Stdin, Stdout, Write};
 use tabling::tabulate;
 
-// The lists of a table: rows one after another. A function has nine numbers, a pool three, a table two, a call four.
+// The lists of a table: rows one after another. A function has ten numbers, a pool three, a table two, a call four.
 #[derive(Drop)]
 struct Arrays {
-    functions: [u32; 9 * 256],
+    functions: [u32; 10 * 256],
     labels: [u32; 1024],
     pools: [u32; 3 * 1024],
     jump_tables: [u32; 2 * 64],
@@ -66,7 +66,7 @@ fn main(rt: HostRuntime) -> io::Result<()> {
     let mut inline_tables = [0u32; 2 * 64];
     let mut calls = [0u32; 4 * 1024];
     let mut lent = Arrays {
-        functions: [0; 9 * 256],
+        functions: [0; 10 * 256],
         labels: [0; 1024],
         pools: [0; 3 * 1024],
         jump_tables: [0; 2 * 64],

@@ -5,7 +5,7 @@ use Rattle.std.specs.Prelude.{Result, Ok, Err}
 use Rattle.base.specs.Choice.{pick}
 use Rattle.base.specs.Refusals.{refusal_no}
 use Rattle.base.specs.declared.refusal.Refusal.{Refusal}
-use Rattle.base.specs.declared.refusal.Refusal.TheVariants.{BadLists, NoRoom}
+use Rattle.base.specs.declared.refusal.Refusal.TheVariants.{NoRoom}
 use Rattle.listing.specs.Listing.{refusal_line}
 use Rattle.table.specs.declared.Table.{Table}
 use Rattle.table.specs.File.{file_of, fits, answer, output_of}

@@ -1,15 +1,14 @@
 -- The starts that are taken so far: the table that they leave, and their lines.
 -- Assumes nothing.
-use Rattle.base.proofs.Prelude.{◌∙◌, sym, refl, ◌≡◌, ap, true, Bool, List, [], ◌∷◌, ◌++◌, map, append_assoc, append-nil, ◌≤◌, ℕ, ◌+◌, ◌-◌, ◌*◌, ◌<◌, suc, zero, arith, add-one}
-use Rattle.base.proofs.Prelude.{length, get_or, drop, drop-cons, drop_of_length-le, leb, le-leb, zero-le, not-suc-le-zero, le_of_suc-le-suc, ltb, ltb-true}
+use Rattle.base.proofs.Prelude.{◌∙◌, sym, refl, ◌≡◌, ap, true, List, [], ◌∷◌, ◌++◌, map, append_assoc, append-nil, ◌≤◌, ℕ, ◌+◌, ◌-◌, ◌*◌, ◌<◌, suc, zero, arith, add-one}
+use Rattle.base.proofs.Prelude.{length, get_or, drop, drop-cons, drop_of_length-le, le-leb, zero-le, not-suc-le-zero, le_of_suc-le-suc, ltb, ltb-true}
 use Rattle.base.proofs.ChoiceLaws.{both_first, both-second}
 use Rattle.context.specs.Lists.{Lists, lists, places_of}
 use Rattle.module_request.specs.ModuleRequest.{start_of}
 use Rattle.rows.specs.Map.{map_in}
 use Rattle.rows.specs.Order.{rising, ascending}
-use Rattle.rows.proofs.OrderLaws.{rising-ascending}
 use Rattle.table.specs.Table.{Function, is_ascending}
-use Rattle.table.specs.Held.{function_row, functions_in, table_in, fits_lists, is_sound}
+use Rattle.table.specs.Held.{function_row, functions_in, fits_lists, is_sound}
 use Rattle.text.specs.Writers.{Wrote}
 use Rattle.text.specs.declared.writer.Writer.{Writer}
 use Rattle.text.proofs.Writers.{wrote_none, wrote_then}
@@ -17,9 +16,8 @@ use Rattle.walk.specs.declared.Counts.{Counts}
 use Rattle.walk.specs.declared.Options.{Options}
 use Rattle.append.specs.Append.{Lent, table_of, rows_of, is_above, last_of, IsSame}
 use Rattle.append.specs.declared.TableMut.{TableMut}
-use Rattle.append_laws.specs.Kept.{holds_table}
 use Rattle.tabling.specs.Tabling.{places, left, Found, found_at, found_from}
-use Rattle.tabling.specs.Taking.{rows_for, line_room, Has, Lends, Kept, Readied, AllReady, Took}
+use Rattle.tabling.specs.Taking.{rows_for, line_room, Has, Lends, Kept, Readied, Took}
 
 -- ---- before the first
 

@@ -1,27 +1,26 @@
 -- A whole walk by the places that it is lent; and what an accepted one leaves: lists in order at its counts, and its start as the first
 -- instruction.
 -- Assumes nothing.
-use Rattle.base.proofs.Prelude.{◌∙◌, sym, refl, ◌≡◌, ap, subst, ⊎_elim, true, false, false≢true, Bool, List, [], ℕ, ◌+◌, ◌*◌, suc, zero, arith, length, ltb, replicate, inl, inr, ◌⊎◌}
+use Rattle.base.proofs.Prelude.{◌∙◌, refl, ◌≡◌, ap, subst, ⊎_elim, true, false, false≢true, Bool, List, ℕ, suc, zero, arith, length, ltb, inl, inr, ◌⊎◌}
 use Rattle.std.specs.Prelude.{Option, Some, None, Result, Ok, Err}
 use Rattle.arm.specs.Ins.{decode_of}
 use Rattle.base.specs.Choice.{pick}
 use Rattle.base.specs.Words.{word_from}
 use Rattle.base.specs.declared.refusal.Refusal.{Refusal}
 use Rattle.base.specs.declared.refusal.Refusal.TheVariants.{NoEpilogue}
-use Rattle.context.specs.Blocks.{handle_ins}
 use Rattle.context.specs.Context.{Maps, Given, Context, Step, on, goes, ends, refuses}
-use Rattle.context.specs.Lists.{Lists, AllHeld, maps_in, places_of, written, zeroed, given_by}
-use Rattle.context.specs.Turn.{Turned, arm_size, context_at, closed, function_of, ending_at, settled, turn_at, turn, key_or0, no_maps, counts_of}
+use Rattle.context.specs.Lists.{Lists, AllHeld, places_of, zeroed, given_by}
+use Rattle.context.specs.Turn.{Turned, arm_size, context_at, with_saved, step_of, function_of, ending_at, settled, turn_at, turn, key_or0, no_maps, counts_of}
 use Rattle.invariants.specs.Turns.{turns_from}
 use Rattle.invariants.proofs.BlockLaws.{ended}
 use Rattle.invariants.proofs.EndingLaws.{ended-stays}
 use Rattle.invariants.proofs.KeptLaws.{none-fits, sound-fits, sound-kept, start-kept, passed-sound, written_held, written-places}
 use Rattle.invariants.proofs.SoundLaws.{AllFit, Sound, step_same}
 use Rattle.invariants.proofs.TurnLaws.{turn-counts, closed-result}
-use Rattle.invariants.proofs.CheckLaws.{number_passed, held-order}
+use Rattle.invariants.proofs.CheckLaws.{number_passed}
 use Rattle.invariants.proofs.StepLaws.{same-written}
 use Rattle.rows.specs.Map.{first_key, map_in}
-use Rattle.stepper.specs.Stepper.{After, is_going, begin, begin_where, check_at, turned, refused}
+use Rattle.stepper.specs.Stepper.{After, is_going, begin, begin_where, check_at, refused}
 use Rattle.validity.specs.Validity.{begin_check}
 use Rattle.walk.specs.IntoFunction.{begun, start_of, end_address, into_function}
 use Rattle.walk.specs.declared.Answer.{Answer}
@@ -55,12 +54,12 @@ HasFirst start Going = Unit {0}
 HasFirst start (Accepted r) = r.first_instruction ≡ start
 HasFirst start (Refused refusal a r) = Unit {0}
 
-into-first : (o : Options) (start last last_pool first_pool : ℕ) → HasFirst start (into_function o start last last_pool first_pool)
+into-first : (o : Options) (start last last_pool first_pool saved : ℕ) → HasFirst start (into_function o start last last_pool first_pool saved)
 unfolding into_function
-into-first o start last last_pool first_pool = step (ltb o.module_end (end_address o.known_end last last_pool))
+into-first o start last last_pool first_pool saved = step (ltb o.module_end (end_address o.known_end last last_pool))
   where
     made : Record
-    made = record { start = start_of start first_pool; end = end_address o.known_end last last_pool; first_instruction = start; last_instruction_end = last }
+    made = record { start = start_of start first_pool; end = end_address o.known_end last last_pool; first_instruction = start; last_instruction_end = last; saved_registers = saved }
 
     step : (b : Bool) → HasFirst start (pick b (Refused NoEpilogue 0 0) (Accepted made))
     step true = tt
@@ -78,13 +77,13 @@ module _ (g : Given) (w : Walk) (m : Maps) where
   abbrev here : ℕ
   here = w.progress.address
 
-  settled-first : (word : ℕ) (s : Step) → handle_ins (decode_of word here) word arm_size before ≡ s → HasFirst w.progress.start (settled before s).walk.result
+  settled-first : (word : ℕ) (s : Step) → step_of (decode_of word here) word before ≡ s → HasFirst w.progress.start (settled before s).walk.result
   settled-first word (on x) e = tt
   settled-first word (goes x) e = tt
   settled-first word (ends end x) e =
-      let same = ended end x (step_same (decode_of word here) word arm_size before) e in
+      let same = ended end x (step_same (decode_of word here) word arm_size (with_saved (decode_of word here) before)) e in
       rw (closed-result (function_of end x) (ending_at end x), ← same.1)
-      (into-first x.given.options x.progress.start end x.progress.last_pool_address (key_or0 (first_key x.maps.pools)))
+      (into-first x.given.options x.progress.start end x.progress.last_pool_address (key_or0 (first_key x.maps.pools)) x.progress.saved_registers)
   settled-first word (refuses n k) e = tt
 
   turn-first : HasFirst w.progress.start (turn g w m).walk.result
@@ -92,7 +91,7 @@ module _ (g : Given) (w : Walk) (m : Maps) where
   turn-first = at (word_from g.code g.options.base here)
     where
       at : (y : Option ℕ) → HasFirst w.progress.start (turn_at y before).walk.result
-      at (Some word) = settled-first word (handle_ins (decode_of word here) word arm_size before) refl
+      at (Some word) = settled-first word (step_of (decode_of word here) word before) refl
       at None = tt
 
 record Left (g : Given) (start : ℕ) (t : Turned) : Type 0 where

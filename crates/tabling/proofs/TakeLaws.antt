@@ -1,44 +1,40 @@
 -- A start that is taken: what is found at it, and the table and the places that it leaves.
 -- Assumes nothing.
-use Rattle.base.proofs.Prelude.{◌∙◌, sym, refl, ◌≡◌, ap, true, false, false≢true, Bool, List, [], ◌∷◌, ◌++◌, map, ◌≤◌, ℕ, ◌+◌, ◌-◌, ◌*◌, ◌<◌, ◌^◌, suc, zero, inl, inr, ⊎_elim, arith}
-use Rattle.base.proofs.Prelude.{length, get_or, leb, ltb, length-replicate, length-append, le-leb, lt-ltb, leb-true, ltb-true}
+use Rattle.base.proofs.Prelude.{◌∙◌, sym, refl, ◌≡◌, ap, true, false≢true, List, [], ◌∷◌, ◌++◌, ◌≤◌, ℕ, ◌+◌, ◌-◌, ◌*◌, ◌<◌, ◌^◌, suc, ⊎_elim, arith}
+use Rattle.base.proofs.Prelude.{length, get_or, leb, length-replicate, le-leb, lt-ltb, leb-true, ltb-true}
 use native.Mathlib.Nat.{mul-le-mul_right, add-mul}
 use lib.ListN.{length-map}
-use Rattle.std.specs.Prelude.{Option, Some, None, Result, Ok, Err, slice_get}
-use Rattle.std.specs.Result.{is_err, is_ok}
+use Rattle.std.specs.Prelude.{Option, Some, None, Result, Ok}
+use Rattle.std.specs.Result.{is_err}
 use Rattle.std.specs.List.{sum_by}
 use Rattle.std.proofs.lemmas.List.Sums.{sum_by-append, sum_by-cons}
 use Rattle.base.proofs.ChoiceLaws.{both_true, both-are}
-use Rattle.base.specs.Choice.{pick, both}
-use Rattle.base.specs.Refusals.{refusal_no}
 use Rattle.base.specs.declared.refusal.Refusal.{Refusal}
 use Rattle.context.specs.Context.{Maps}
-use Rattle.context.specs.Lists.{Lists, AllHeld, maps_in, places_of}
+use Rattle.context.specs.Lists.{Lists, maps_in, places_of}
 use Rattle.context.specs.Turn.{no_maps, counts_of}
 use Rattle.invariants.proofs.CheckLaws.{held-order}
-use Rattle.lists.specs.Lists.{are_in_order}
 use Rattle.rows.specs.Map.{map_in, flat}
 use Rattle.rows.proofs.MapLaws.{map-length, held-flat}
 use Rattle.stepper.specs.declared.Answered.{Answered}
-use Rattle.stepper.specs.Stepper.{After, Called, refused}
+use Rattle.stepper.specs.Stepper.{After, Called}
 use Rattle.table.specs.Table.{Function}
-use Rattle.table.specs.Held.{function_row, label_row, pool_row, table_row, call_row, labels_at, pools_at, jump_tables_at, inline_tables_at, calls_at}
+use Rattle.table.specs.Held.{function_row, label_row, pool_row, jump_table_row, inline_table_row, call_row, labels_at, pools_at, jump_tables_at, inline_tables_at, calls_at}
 use Rattle.table.specs.Held.{Lists as Held, flagged, function_in, past, functions_in, fits_lists, is_sound}
 use Rattle.text.specs.Put.{put}
 use Rattle.text.proofs.Put.{put-length}
 use Rattle.walk.specs.declared.Answer.{Answer}
-use Rattle.walk.specs.declared.Answer.TheVariants.{Going, Accepted, Refused}
+use Rattle.walk.specs.declared.Answer.TheVariants.{Accepted}
 use Rattle.walk.specs.declared.Counts.{Counts}
 use Rattle.walk.specs.declared.Options.{Options}
 use Rattle.walk.specs.declared.Record.{Record}
 use Rattle.whole.specs.Whole.{run}
-use Rattle.append.specs.Append.{Lent, function_of, row_of, rows_of, table_of, total, used, fits, is_above, last_of, is_next, has_room, has_places, checked, answer, filled, appended, Appended}
+use Rattle.append.specs.Append.{Lent, function_of, row_of, rows_of, table_of, total, used, fits, is_above, last_of, is_next, has_room, has_places, checked, answer, appended, Appended}
 use Rattle.append.proofs.CheckLaws.{Passed, next-passed, passed-room, passed-row}
 use Rattle.append.proofs.AppendLaws.{rows-after}
-use Rattle.append_laws.specs.Kept.{holds_table}
 use Rattle.append_laws.proofs.KeptLaws.{kept}
 use Rattle.tabling.specs.Tabling.{places, left, empty_lists, walked, Found, taken, taken_by, found_at}
-use Rattle.tabling.specs.Taking.{rows_for, without, Within, Lends, Kept, Readied, Ready, Took}
+use Rattle.tabling.specs.Taking.{rows_for, without, Within, Lends, Ready, Took}
 use Rattle.tabling.proofs.RunLaws.{HasFirst, same-run, accepted-leaves}
 
 -- ---- how many entries a table has
@@ -64,8 +60,8 @@ unfolding function_in
 totals-are t = record {
   labels = kind-total labels_at (λ f. length f.labels) (λ row l. map-length label_row (get_or row labels_at 0) l.labels) (rows_of t) t.lists;
   pools = kind-total pools_at (λ f. length f.pools) (λ row l. length-map (map_in pool_row (get_or row pools_at 0) l.pools) (flagged 2) ∙ map-length pool_row (get_or row pools_at 0) l.pools) (rows_of t) t.lists;
-  jump_tables = kind-total jump_tables_at (λ f. length f.jump_tables) (λ row l. map-length table_row (get_or row jump_tables_at 0) l.jump_tables) (rows_of t) t.lists;
-  inline_tables = kind-total inline_tables_at (λ f. length f.inline_tables) (λ row l. map-length table_row (get_or row inline_tables_at 0) l.inline_tables) (rows_of t) t.lists;
+  jump_tables = kind-total jump_tables_at (λ f. length f.jump_tables) (λ row l. map-length jump_table_row (get_or row jump_tables_at 0) l.jump_tables) (rows_of t) t.lists;
+  inline_tables = kind-total inline_tables_at (λ f. length f.inline_tables) (λ row l. map-length inline_table_row (get_or row inline_tables_at 0) l.inline_tables) (rows_of t) t.lists;
   calls = kind-total calls_at (λ f. length f.calls) (λ row l. length-map (map_in call_row (get_or row calls_at 0) l.calls) (flagged 3) ∙ map-length call_row (get_or row calls_at 0) l.calls) (rows_of t) t.lists;
 }
 
@@ -77,8 +73,8 @@ empty-places n =
     rw (
       length-replicate {A = ℕ} (n.labels * label_row) 0,
       length-replicate {A = ℕ} (n.pools * pool_row) 0,
-      length-replicate {A = ℕ} (n.jump_tables * table_row) 0,
-      length-replicate {A = ℕ} (n.inline_tables * table_row) 0,
+      length-replicate {A = ℕ} (n.jump_tables * jump_table_row) 0,
+      length-replicate {A = ℕ} (n.inline_tables * inline_table_row) 0,
       length-replicate {A = ℕ} (n.calls * call_row) 0,
     )
 
@@ -95,8 +91,8 @@ left-less table r n l =
     rw (
       less places.labels n.labels (λ f. length f.labels) table f (map-length label_row n.labels l.labels),
       less places.pools n.pools (λ f. length f.pools) table f (length-map (map_in pool_row n.pools l.pools) (flagged 2) ∙ map-length pool_row n.pools l.pools),
-      less places.jump_tables n.jump_tables (λ f. length f.jump_tables) table f (map-length table_row n.jump_tables l.jump_tables),
-      less places.inline_tables n.inline_tables (λ f. length f.inline_tables) table f (map-length table_row n.inline_tables l.inline_tables),
+      less places.jump_tables n.jump_tables (λ f. length f.jump_tables) table f (map-length jump_table_row n.jump_tables l.jump_tables),
+      less places.inline_tables n.inline_tables (λ f. length f.inline_tables) table f (map-length inline_table_row n.inline_tables l.inline_tables),
       less places.calls n.calls (λ f. length f.calls) table f (length-map (map_in call_row n.calls l.calls) (flagged 3) ∙ map-length call_row n.calls l.calls),
     )
 
@@ -202,8 +198,8 @@ module _ (o : Options) (code : List ℕ) (start : ℕ) (l : Lists) (t : Lent) (n
     record Own : Type 0 where
       pub labels : total labels_at (rows_of t) * label_row ≤ length t.lists.labels
       pub pools : total pools_at (rows_of t) * pool_row ≤ length t.lists.pools
-      pub jump_tables : total jump_tables_at (rows_of t) * table_row ≤ length t.lists.jump_tables
-      pub inline_tables : total inline_tables_at (rows_of t) * table_row ≤ length t.lists.inline_tables
+      pub jump_tables : total jump_tables_at (rows_of t) * jump_table_row ≤ length t.lists.jump_tables
+      pub inline_tables : total inline_tables_at (rows_of t) * inline_table_row ≤ length t.lists.inline_tables
       pub calls : total calls_at (rows_of t) * call_row ≤ length t.lists.calls
 
     own : Own
@@ -237,7 +233,7 @@ module _ (o : Options) (code : List ℕ) (start : ℕ) (l : Lists) (t : Lent) (n
         let within : total pools_at (rows_of t) ≤ places.pools = omega arith in
         one-room pool_row places.pools _ k.pools n.pools t.lists.pools long is-left few.pools within (omega arith)
 
-    jump_tables-room : has_room table_row (total jump_tables_at (rows_of t)) k.jump_tables t.lists.jump_tables ≡ true
+    jump_tables-room : has_room jump_table_row (total jump_tables_at (rows_of t)) k.jump_tables t.lists.jump_tables ≡ true
     unfolding left
     jump_tables-room =
         let sum = (totals-are t).jump_tables in
@@ -246,9 +242,9 @@ module _ (o : Options) (code : List ℕ) (start : ℕ) (l : Lists) (t : Lent) (n
         let long = ready.readied.kept.lends.jump_tables in
         let mine = own.jump_tables in
         let within : total jump_tables_at (rows_of t) ≤ places.jump_tables = omega arith in
-        one-room table_row places.jump_tables _ k.jump_tables n.jump_tables t.lists.jump_tables long is-left few.jump_tables within (omega arith)
+        one-room jump_table_row places.jump_tables _ k.jump_tables n.jump_tables t.lists.jump_tables long is-left few.jump_tables within (omega arith)
 
-    inline_tables-room : has_room table_row (total inline_tables_at (rows_of t)) k.inline_tables t.lists.inline_tables ≡ true
+    inline_tables-room : has_room inline_table_row (total inline_tables_at (rows_of t)) k.inline_tables t.lists.inline_tables ≡ true
     unfolding left
     inline_tables-room =
         let sum = (totals-are t).inline_tables in
@@ -257,7 +253,7 @@ module _ (o : Options) (code : List ℕ) (start : ℕ) (l : Lists) (t : Lent) (n
         let long = ready.readied.kept.lends.inline_tables in
         let mine = own.inline_tables in
         let within : total inline_tables_at (rows_of t) ≤ places.inline_tables = omega arith in
-        one-room table_row places.inline_tables _ k.inline_tables n.inline_tables t.lists.inline_tables long is-left few.inline_tables within (omega arith)
+        one-room inline_table_row places.inline_tables _ k.inline_tables n.inline_tables t.lists.inline_tables long is-left few.inline_tables within (omega arith)
 
     calls-room : has_room call_row (total calls_at (rows_of t)) k.calls t.lists.calls ≡ true
     unfolding left
@@ -304,8 +300,8 @@ module _ (o : Options) (code : List ℕ) (start : ℕ) (l : Lists) (t : Lent) (n
         record {
           labels = put-long label_row _ k.labels t.lists.labels m.labels (held-flat h.labels) q.labels.room ∙ lends.labels;
           pools = put-long pool_row _ k.pools t.lists.pools m.pools (held-flat h.pools) q.pools.room ∙ lends.pools;
-          jump_tables = put-long table_row _ k.jump_tables t.lists.jump_tables m.jump_tables (held-flat h.jump_tables) q.jump_tables.room ∙ lends.jump_tables;
-          inline_tables = put-long table_row _ k.inline_tables t.lists.inline_tables m.inline_tables (held-flat h.inline_tables) q.inline_tables.room ∙ lends.inline_tables;
+          jump_tables = put-long jump_table_row _ k.jump_tables t.lists.jump_tables m.jump_tables (held-flat h.jump_tables) q.jump_tables.room ∙ lends.jump_tables;
+          inline_tables = put-long inline_table_row _ k.inline_tables t.lists.inline_tables m.inline_tables (held-flat h.inline_tables) q.inline_tables.room ∙ lends.inline_tables;
           calls = put-long call_row _ k.calls t.lists.calls m.calls (held-flat h.calls) q.calls.room ∙ lends.calls;
         }
 

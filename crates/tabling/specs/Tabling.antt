@@ -1,7 +1,7 @@
 -- What the table program finds and writes for an input: the table of the accepted functions, and a line for each refused start.
 -- Assumes nothing.
-use Rattle.std.specs.Prelude.{◌≡◌, Bool, true, List, [], ◌∷◌, ◌++◌, ℕ, ◌+◌, ◌-◌, ◌*◌, ◌≤◌, map, length, replicate, Option, Some, None, Result, Ok, Err}
-use Rattle.std.specs.List.{sum_by, flat_map}
+use Rattle.std.specs.Prelude.{◌≡◌, List, [], ◌∷◌, ◌++◌, ℕ, ◌-◌, ◌*◌, length, replicate, Option, Some, None}
+use Rattle.std.specs.List.{sum_by}
 use Rattle.base.specs.Refusals.{refusal_no}
 use Rattle.base.specs.Choice.{pick}
 use Rattle.base.specs.declared.refusal.Refusal.{Refusal}

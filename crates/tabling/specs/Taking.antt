@@ -1,6 +1,6 @@
 -- What the code asks before a start is taken, and what it leaves.
 -- Assumes nothing.
-use Rattle.std.specs.Prelude.{◌≡◌, true, false, List, ℕ, ◌+◌, ◌-◌, ◌*◌, ◌≤◌, ◌<◌, length, Option}
+use Rattle.std.specs.Prelude.{◌≡◌, true, List, ℕ, ◌+◌, ◌-◌, ◌*◌, ◌≤◌, ◌<◌, length}
 use Rattle.context.specs.Context.{label_row, pool_row, table_row, call_row}
 use Rattle.context.specs.Lists.{Lists, places_of}
 use Rattle.table.specs.Held.{function_row}

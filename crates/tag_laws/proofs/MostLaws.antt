@@ -7,9 +7,8 @@ use Rattle.std.specs.Prelude.{Option, Some, None}
 use Rattle.base.specs.declared.refusal.Refusal.TheVariants.{NoEpilogue}
 use Rattle.arm.specs.Ins.{decode_of}
 use Rattle.base.specs.Words.{word_from}
-use Rattle.context.specs.Blocks.{handle_ins}
 use Rattle.context.specs.Context.{Maps, Given, Context, Step, on, goes, ends, refuses}
-use Rattle.context.specs.Turn.{Turned, arm_size, context_at, function_of, ending_at, settled, turn_at, turn}
+use Rattle.context.specs.Turn.{Turned, arm_size, context_at, function_of, ending_at, settled, step_of, with_saved, turn_at, turn}
 use Rattle.invariants.specs.Turns.{turns_from}
 use Rattle.invariants.proofs.BlockLaws.{ended}
 use Rattle.invariants.proofs.EndingLaws.{ended-stays}
@@ -50,14 +49,20 @@ end-high None last pool e = step (eqb pool 0)
     step false = omega arith
 end-high (Some end) last pool e = absurd (let z : ◌≡◌ {A = ℕ} 0 1 = cc in omega arith)
 
-module _ (o : Options) (start last last_pool first_pool : ℕ) (r : Record) where
+module _ (o : Options) (start last last_pool first_pool saved : ℕ) (r : Record) where
   abbrev end : ℕ
   end = end_address o.known_end last last_pool
 
   abbrev made : Record
-  made = record { start = start_of start first_pool; end = end; first_instruction = start; last_instruction_end = last }
+  made = record {
+    start = start_of start first_pool;
+    end = end;
+    first_instruction = start;
+    last_instruction_end = last;
+    saved_registers = saved;
+  }
 
-  record-holds : into_function o start last last_pool first_pool ≡ Accepted r → Holds o.known_end start r
+  record-holds : into_function o start last last_pool first_pool saved ≡ Accepted r → Holds o.known_end start r
   unfolding into_function
   record-holds e = step (ltb o.module_end end) e
     where
@@ -74,14 +79,16 @@ module _ (g : Given) (w : Walk) (m : Maps) (r : Record) where
   abbrev before : Context
   before = context_at g w m
 
-  settled-holds : (word : ℕ) (s : Step) → handle_ins (decode_of word a) word arm_size before ≡ s → (settled before s).walk.result ≡ Accepted r
+  settled-holds : (word : ℕ) (s : Step) → step_of (decode_of word a) word before ≡ s → (settled before s).walk.result ≡ Accepted r
       → Holds g.options.known_end w.progress.start r
   settled-holds word (on x) e f = absurd (no_record f tt)
   settled-holds word (goes x) e f = absurd (no_record f tt)
   settled-holds word (ends end x) e f =
-      let same = ended end x (step_same (decode_of word a) word arm_size before) e in
+      let i = decode_of word a in
+      let same = ended end x (step_same i word arm_size (with_saved i before)) e in
       rw (← same.0, ← same.1)
-      (record-holds x.given.options x.progress.start end x.progress.last_pool_address _ r (sym (closed-result (function_of end x) (ending_at end x)) ∙ f))
+      (record-holds x.given.options x.progress.start end x.progress.last_pool_address _ x.progress.saved_registers r
+      (sym (closed-result (function_of end x) (ending_at end x)) ∙ f))
   settled-holds word (refuses n k) e f = absurd (no_record f tt)
 
   turn-holds : (turn g w m).walk.result ≡ Accepted r → Holds g.options.known_end w.progress.start r
@@ -89,7 +96,7 @@ module _ (g : Given) (w : Walk) (m : Maps) (r : Record) where
   turn-holds e = at (word_from g.code g.options.base a) e
     where
       at : (y : Option ℕ) → (turn_at y before).walk.result ≡ Accepted r → Holds g.options.known_end w.progress.start r
-      at (Some word) h = settled-holds word (handle_ins (decode_of word a) word arm_size before) refl h
+      at (Some word) h = settled-holds word (step_of (decode_of word a) word before) refl h
       at None h = absurd (no_record h tt)
 
 module _ (g : Given) (r : Record) where

@@ -6,10 +6,10 @@ use Rattle.arm.specs.Ins.{decode_of}
 use Rattle.std.specs.Prelude.{Option as Optional, Some, None, Result, Ok, Err}
 use Rattle.base.specs.declared.refusal.Refusal.{Refusal}
 use Rattle.base.specs.Words.{word_from}
-use Rattle.context.specs.Blocks.{inline_table_at, handle_ins}
+use Rattle.context.specs.Blocks.{inline_table_at}
 use Rattle.context.specs.Context.{Maps, Given, Context, Step, on, goes, ends, refuses}
 use Rattle.context.specs.Lists.{Lists, zeroed, given_by}
-use Rattle.context.specs.Turn.{Turned, arm_size, context_at, closed, function_of, ending_at, settled, turn_at, turn}
+use Rattle.context.specs.Turn.{Turned, arm_size, context_at, closed, function_of, ending_at, settled, step_of, with_saved, turn_at, turn}
 use Rattle.invariants.specs.Turns.{turns_from}
 use Rattle.invariants.proofs.BlockLaws.{never_on}
 use Rattle.invariants.proofs.EndingLaws.{ended-stays}
@@ -61,22 +61,25 @@ module _ (g : Given) (w : Walk) (m : Maps) where
   abbrev before : Context
   before = context_at g w m
 
+  abbrev entered : ℕ → Context
+  entered word = with_saved (decode_of word a) before
+
   abbrev step_at : ℕ → Step
-  step_at word = handle_ins (decode_of word a) word arm_size before
+  step_at word = step_of (decode_of word a) word before
 
   abbrev counted : Turned → ℕ
   counted t = bytes_at t.walk.result (eqb t.walk.progress.address a)
 
   settled-counts : (word : ℕ) → is_data a m.pools m.inline_tables ≡ false → (s : Step) → step_at word ≡ s
       → counted (settled before s) + a ≤ (settled before s).walk.progress.address
-  settled-counts word code (on x) e = absurd (never_on (decode_of word a) word arm_size before x e)
+  settled-counts word code (on x) e = absurd (never_on (decode_of word a) word arm_size (entered word) x e)
   settled-counts word code (goes x) e =
       let none-here = no-data a m.pools m.inline_tables code in
-      let past = goes-next (decode_of word a) word arm_size before x none-here.0 none-here.1 e in
+      let past = goes-next (decode_of word a) word arm_size (entered word) x none-here.0 none-here.1 e in
       let few = bytes-few Going (eqb x.progress.address a) in
       omega arith
   settled-counts word code (ends end x) e =
-      rw (closed-address (function_of end x) (ending_at end x)) (by (ends_at (decode_of word a) word arm_size before end x (omega arith) e))
+      rw (closed-address (function_of end x) (ending_at end x)) (by (ends_at (decode_of word a) word arm_size (entered word) end x (omega arith) e))
     where
       result : Answer
       result = (closed (function_of end x) (ending_at end x)).walk.result

@@ -13,7 +13,7 @@ pub struct Writer<'a> {
 
 impl<'a> Writer<'a> {
     ghost use Rattle.text.specs.Decimal.{decimal};
-    ghost use Rattle.text.specs.Hex.{hex};
+    ghost use Rattle.text.specs.Hex.{digits, hex};
     ghost use Rattle.text.specs.Writers.{HasRoom, Wrote};
 
     // At the start of `out`.
@@ -51,6 +51,15 @@ impl<'a> Writer<'a> {
         ensures { Wrote self.old self.new (hex digits value) }
     {
         self.at = put_hex(self.out, self.at, digits, value);
+    }
+
+    // The low `count` decimal digits of `value`, with leading zeros.
+    #[tactic(auto, using(crate::proofs::Hex::lengths))]
+    pub fn put_digits(&mut self, count: usize, value: u32)
+        requires { HasRoom self.old count }
+        ensures { Wrote self.old self.new (digits 10 count value) }
+    {
+        self.at = put_digits(self.out, self.at, 10, count, value as u64);
     }
 
     // The decimal text of `value`, without leading zeros.

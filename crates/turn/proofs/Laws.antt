@@ -3,6 +3,7 @@
 use Rattle.base.proofs.Prelude.{◌∙◌, refl, ◌≡◌, ap, false, true, Bool, List, [], ◌≤◌, ℕ, ◌+◌, ◌<◌, ◌-◌, ◌^◌, arith, ltb, length, drop}
 use Rattle.base.proofs.Prelude.{length-drop, length-replicate, ltb-false}
 use lib.Dec.{lit<}
+use Rattle.arm.specs.declared.Ins.{Ins}
 use Rattle.arm.specs.Ins.{decode_of}
 use Rattle.std.specs.Prelude.{Some, None}
 use Rattle.base.specs.declared.refusal.Refusal.TheVariants.{NoEpilogue}
@@ -13,10 +14,10 @@ use Rattle.context.specs.declared.Module.{Module}
 use Rattle.context.specs.declared.Then.{Then}
 use Rattle.context.specs.declared.Then.TheVariants.{On, Goes, Ends, Refuses}
 use Rattle.context.specs.Blocks.{handle_ins}
-use Rattle.context.specs.Context.{Given, Maps, call_row, label_row, pool_row, table_row, moving}
+use Rattle.context.specs.Context.{Given, Maps, call_row, label_row, pool_row, table_row, saving, moving}
 use Rattle.context.specs.Lists.{Lists, AllHeld, maps_in, written, zeroed, given_to}
 use Rattle.context.specs.State.{read, progressed}
-use Rattle.context.specs.Turn.{Turned, turn, context_at, settled, closed, counts_of, no_maps, key_or0, arm_size}
+use Rattle.context.specs.Turn.{Turned, turn, context_at, saved_first, settled, closed, counts_of, no_maps, key_or0, arm_size}
 use Rattle.registers.specs.declared.Registers.{Registers}
 use Rattle.rows.specs.Map.{map_in, encode, Held, first_key}
 use Rattle.rows.proofs.MapLaws.{map-length, zeros-held}
@@ -44,7 +45,7 @@ module _ (g : Given) (w : Walk) (m : Maps) (l : Lists) where
   settles-left On h s = closes Going h s
   settles-left Goes h s = closes Going h s
   settles-left (Ends end) h s =
-      closes (into_function g.options s.progress.start end s.progress.last_pool_address (key_or0 (first_key (map_in pool_row s.counts.pools l.pools))))
+      closes (into_function g.options s.progress.start end s.progress.last_pool_address (key_or0 (first_key (map_in pool_row s.counts.pools l.pools))) s.progress.saved_registers)
       h (progressed (moving end s.progress.previous s.progress) s)
   settles-left (Refuses n r) h s = refl
 
@@ -54,10 +55,15 @@ settles-counts o w pool Goes h s = refl
 settles-counts o w pool (Ends end) h s = refl
 settles-counts o w pool (Refuses n r) h s = refl
 
+-- the state that handle_ins gets
+abbrev pub readied : Ins → Walk → State
+readied i w = progressed (saving (saved_first i w.progress) w.progress) (state_of w)
+
 module _ (given : Module) (w : Walk) (before : Lists) where
   pub looks-settled : {after : Lists} {r : Handled} {x : Walk} {word : ℕ} → word_from given.code.now given.options.base w.progress.address ≡ Some word
       → Handles (given_to given before) r before after
-      (handle_ins (decode_of word w.progress.address) word arm_size (context_in (given_to given before) w.registers (state_of w) before))
+      (handle_ins (decode_of word w.progress.address) word arm_size
+      (context_in (given_to given before) w.registers (readied (decode_of word w.progress.address) w) before))
       → x ≡ settles given.options w (key_or0 (first_key (map_in pool_row r.stepped.state.counts.pools after.pools))) r.stepped.then r.registers r.stepped.state
       → Looks x before after (turn (given_to given before) w (maps_in w.counts before))
   unfolding turn

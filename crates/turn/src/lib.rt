@@ -9,7 +9,7 @@ ghost use Rattle.turn.specs.Turning.{Looks, Turns};
 use base::refusal::Refusal;
 use base::word::word_from;
 use calls::CallList;
-use context::{Handled, Module, Parsed};
+use context::{Handled, Module, Parsed, with_saved};
 use handle_ins::handle_ins;
 use lists::Lists;
 use outcome::{is_refused, no_counts, refused_walk, settle, state_of, with_counts};
@@ -32,7 +32,8 @@ fn look<C: CallList>(m: Module, w: Walk, lists: &mut Lists<C>) -> Walk
             let size = ARM_SIZE;
             let mut registers = w.registers;
             let parsed = Parsed { ins, word, size };
-            let stepped = handle_ins(m, state_of(w), &mut registers, parsed, lists);
+            let ready = with_saved(state_of(w), ins);
+            let stepped = handle_ins(m, ready, &mut registers, parsed, lists);
             // By a `&mut`: a field lent straight as `&` is not proved to stay as it was.
             let pools = &mut *lists.pools;
             settle(m.options, w, Handled { stepped, registers }, pools)

@@ -23,6 +23,7 @@ begun start n = record {
     last_pool_address = 0;
     jump_table_end_address = 0;
     defined_registers = 0b1111_1100_0000_1111;
+    saved_registers = 0;
     previous = record { is_branch = false; is_conditional = false; is_adds_four = false };
   };
   machines = record { jump_table = CmpReg; function_branch = F-Start; inline_table = T-Start; illegal_code = I-Start };
@@ -41,10 +42,17 @@ unfoldable pub start_of : ℕ → ℕ → ℕ
 start_of start pool = pick (eqb pool 0) start (pick (ltb pool start) pool start)
 
 -- the record, unless it ends past the module
-abbrev pub record_to : ℕ → ℕ → ℕ → ℕ → ℕ → Answer
-record_to module_end start last pool end =
+abbrev pub record_to : ℕ → ℕ → ℕ → ℕ → ℕ → ℕ → Answer
+record_to module_end start last pool saved end =
     pick (ltb module_end end) (Refused NoEpilogue 0 0)
-    (Accepted (record { start = start_of start pool; end = end; first_instruction = start; last_instruction_end = last }))
+    (Accepted (record {
+      start = start_of start pool;
+      end = end;
+      first_instruction = start;
+      last_instruction_end = last;
+      saved_registers = saved;
+    }))
 
-unfoldable pub into_function : Options → ℕ → ℕ → ℕ → ℕ → Answer
-into_function o start last last_pool first_pool = record_to o.module_end start last first_pool (end_address o.known_end last last_pool)
+unfoldable pub into_function : Options → ℕ → ℕ → ℕ → ℕ → ℕ → Answer
+into_function o start last last_pool first_pool saved =
+    record_to o.module_end start last first_pool saved (end_address o.known_end last last_pool)

@@ -26,6 +26,7 @@ pub fn new(start: u32, counts: Counts) -> Walk
             last_pool_address: 0,
             jump_table_end_address: 0,
             defined_registers: DEFINED,
+            saved_registers: 0,
             previous: Previous::default(),
         },
         machines: Machines {
@@ -75,8 +76,9 @@ pub fn into_function(
     last_instruction_end: u32,
     last_pool_address: u32,
     first_pool: u32,
+    saved_registers: u32,
 ) -> Answer
-    ensures { result ≡ into_function o start last_instruction_end last_pool_address first_pool }
+    ensures { result ≡ into_function o start last_instruction_end last_pool_address first_pool saved_registers }
 {
     let end = end_address(o.known_end, last_instruction_end, last_pool_address);
     if end > o.module_end as u64 {
@@ -91,5 +93,6 @@ pub fn into_function(
         end: end as u32,
         first_instruction: start,
         last_instruction_end,
+        saved_registers,
     })
 }

@@ -25,7 +25,7 @@ pub struct Options {
     pub check: bool,
 }
 
-// How far a walk has come.
+// How far a walk has come. `saved_registers` is what its first instruction saves.
 #[derive(Clone, Copy)]
 pub struct Progress {
     pub start: u32,
@@ -34,6 +34,7 @@ pub struct Progress {
     pub last_pool_address: u32,
     pub jump_table_end_address: u32,
     pub defined_registers: u16,
+    pub saved_registers: u32,
     pub previous: Previous,
 }
 
@@ -55,12 +56,14 @@ pub struct Counts {
     pub calls: usize,
 }
 
+// `saved_registers` of its first instruction is no field of the source's record.
 #[derive(Clone, Copy, PartialEq, Eq, Default)]
 pub struct Record {
     pub start: u32,
     pub end: u32,
     pub first_instruction: u32,
     pub last_instruction_end: u32,
+    pub saved_registers: u32,
 }
 
 // What a call answers: a walk that goes on has neither a record nor a refusal, so there are three. `register` is the undefined one at

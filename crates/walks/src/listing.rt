@@ -88,9 +88,10 @@ fn put_answer(output: &mut Stdout, answer: Answer, is_full: bool) -> io::Result<
         Answer::Accepted(r) => {
             let (start, end) = (r.start, r.end);
             let (first, last_end) = (r.first_instruction, r.last_instruction_end);
+            let saved = r.saved_registers;
             writeln!(
                 output,
-                "function {start:08x} {end:08x} {first:08x} {last_end:08x}"
+                "function {start:08x} {end:08x} {first:08x} {last_end:08x} {saved:02}"
             )
         }
         Answer::Refused {

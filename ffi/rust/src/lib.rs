@@ -71,6 +71,8 @@ pub struct Function {
     pub end: u32,
     pub first_instruction: u32,
     pub last_instruction_end: u32,
+    /// By the first instruction; 0 where that is no unconditional push of LR.
+    pub saved_registers: u32,
     pub counts: Counts,
 }
 
@@ -116,6 +118,7 @@ struct Answer {
     end: u64,
     first_instruction: u64,
     last_instruction_end: u64,
+    saved_registers: u64,
     labels: u64,
     pools: u64,
     jump_tables: u64,
@@ -213,6 +216,7 @@ impl Answer {
             end: self.end as u32,
             first_instruction: self.first_instruction as u32,
             last_instruction_end: self.last_instruction_end as u32,
+            saved_registers: self.saved_registers as u32,
             counts: Counts {
                 labels: self.labels as usize,
                 pools: self.pools as usize,

@@ -1,7 +1,7 @@
 //! A module's table, and its file: safe calls of the proved `cugbejin_append` and `cugbejin_write`. README.md has the file's form.
 use crate::{Function, Lists, Refusal, numbers};
 
-/// A function of a table: its four addresses, and how many entries of each kind are its own.
+/// A function of a table: its four addresses, how many registers its first instruction saves, and how many entries of each kind are its own.
 #[repr(C)]
 #[derive(Clone, Copy, Debug, Default, PartialEq, Eq)]
 pub struct FunctionRow {
@@ -9,6 +9,8 @@ pub struct FunctionRow {
     pub end: u32,
     pub first_instruction: u32,
     pub last_instruction_end: u32,
+    /// Not in the file.
+    pub saved_registers: u32,
     pub labels: u32,
     pub pools: u32,
     pub jump_tables: u32,
@@ -29,7 +31,7 @@ pub struct Module<'a> {
 unsafe extern "C" {
     #[allow(clippy::too_many_arguments)]
     fn cugbejin_append(
-        start: u32, end: u32, first_instruction: u32, last_instruction_end: u32,
+        start: u32, end: u32, first_instruction: u32, last_instruction_end: u32, saved_registers: u32,
         label_count: usize, pool_count: usize, jump_table_count: usize, inline_table_count: usize, call_count: usize,
         labels: *mut u32, labels_length: usize,
         pools: *mut u32, pools_length: usize,
@@ -87,7 +89,7 @@ impl Module<'_> {
         // alone, so it is as aligned as one and has no padding.
         let number = unsafe {
             cugbejin_append(
-                function.start, function.end, function.first_instruction, function.last_instruction_end,
+                function.start, function.end, function.first_instruction, function.last_instruction_end, function.saved_registers,
                 counts.labels, counts.pools, counts.jump_tables, counts.inline_tables, counts.calls,
                 labels, labels_length,
                 pools, pools_length,

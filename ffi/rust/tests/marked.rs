@@ -1,5 +1,6 @@
-//! Walks document 01's marked runs C1 to C12, and its examples of the refusals 1 to 4 and 13. What is expected is typed from 01's tables. Each is
-//! walked once more with its tag; the tags are worked out by hand: 100 for each byte of an instruction, divided by the record's length.
+//! Walks document 01's marked runs C1 to C12, its examples of the refusals 1 to 4 and 13, and functions that save registers. What is expected is typed
+//! from 01's tables; what is saved is counted in the word. Each run is walked once more with its tag; the tags are worked out by hand: 100 for each byte
+//! of an instruction, divided by the record's length.
 use cugbejin::{Call, Counts, Function, Lists, Options, Percent, Pool, Refusal, Table, TagError, run, tag};
 
 const BASE: u32 = 0x0200_0000;
@@ -83,7 +84,7 @@ fn whole(options: Options, words: &[u32]) -> (Answer, Rows) {
 
 fn function(end: u32, last: u32) -> Function {
     let counts = Counts { labels: 0, pools: 0, jump_tables: 0, inline_tables: 0, calls: 0 };
-    Function { start: BASE, end: BASE + end, first_instruction: BASE, last_instruction_end: BASE + last, counts }
+    Function { start: BASE, end: BASE + end, first_instruction: BASE, last_instruction_end: BASE + last, saved_registers: 0, counts }
 }
 
 fn refused(number: u32, address: u32, register: u32) -> (Answer, Rows) {
@@ -180,6 +181,15 @@ fn c11_a_known_end() {
 fn c12_an_undefined_register() {
     assert_eq!(whole(options(BASE, C12), C12), bare(0x08, 0x08));
     assert_eq!(whole(Options { check: true, ..options(BASE, C12) }, C12), refused(11, BASE, 4));
+}
+
+/// push {r4, r5, r6, lr} and pop {r4, r5, r6, pc}; one of lr alone; a start that is none.
+#[test]
+fn saved_registers() {
+    for (words, saved) in [([0xE92D_4070, 0xE8BD_8070], 4), ([0xE52D_E004, 0xE49D_F004], 1), ([0xE1A0_0000, 0xE8BD_8070], 0)] {
+        let found = Function { saved_registers: saved, ..function(0x08, 0x08) };
+        assert_eq!(whole(options(BASE, &words), &words), (Ok(found), Rows::default()));
+    }
 }
 
 fn tagged(options: Options, words: &[u32]) -> Tag {

@@ -10,4 +10,5 @@ pub returns : goal.returns
 unfolding record_line newline bytes
 returns c =
     let first = wrote_then (wrote_then c.put_bytes.ensures c.put_field.ensures.0) c.put_field-2.ensures.0 in
-    (wrote_then (wrote_then (wrote_then first c.put_field-3.ensures.0) c.put_field-4.ensures.0) c.put_byte.ensures, omega arith)
+    let addresses = wrote_then (wrote_then first c.put_field-3.ensures.0) c.put_field-4.ensures.0 in
+    (wrote_then (wrote_then addresses c.put_two_digits.ensures.0) c.put_byte.ensures, omega arith)

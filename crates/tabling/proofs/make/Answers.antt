@@ -1,7 +1,7 @@
 -- `make` meets its contract.
-use Rattle.base.proofs.Prelude.{[], ◌∙◌, sym, refl, ◌≡◌, ap, subst, ◌++◌, List, ℕ, map, length, ◌≤◌, arith}
+use Rattle.base.proofs.Prelude.{[], ◌∙◌, sym, refl, ap, subst, ◌++◌, List, ℕ, map, length, arith}
 use Rattle.rows.specs.Order.{ascending}
-use Rattle.module_request.specs.ModuleRequest.{start_of, start_bytes}
+use Rattle.module_request.specs.ModuleRequest.{start_of}
 use Rattle.module_request.proofs.Laws.{asked-fits, asked-few}
 use Rattle.text.specs.Put.{put}
 use Rattle.text.specs.Writers.{Wrote}

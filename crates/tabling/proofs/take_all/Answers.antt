@@ -1,5 +1,5 @@
 -- `take_all` meets its contract: start by start.
-use Rattle.base.proofs.Prelude.{◌∙◌, sym, refl, ◌≡◌, ap, subst, List, ℕ, map, length, arith}
+use Rattle.base.proofs.Prelude.{◌∙◌, refl, arith}
 use lib.ListN.{length-map}
 use Rattle.append.specs.Append.{lent_by}
 use Rattle.module_request.specs.ModuleRequest.{start_of}

@@ -1,7 +1,5 @@
 -- `write_file` meets its contract: a sound table is refused by 18 alone.
-use Rattle.base.proofs.Prelude.{◌∙◌, sym, refl}
 use Rattle.text.proofs.Writers.{wrote_none}
-use Rattle.tabling.specs.Tabling.{filed}
 use Rattle.tabling.proofs.FileLaws.{filed-file, filed-len, filed-none, refused-file, refused-len, refused-lines}
 use Rattle.tabling.proofs.write_file.Goals as goal
 

@@ -113,11 +113,23 @@ impl Request {
             Ok(Ok(function)) => bytes.map(|bytes| percent(function, bytes)),
             _ => None,
         };
-        let answer = answer(by_steps, address);
-        assert_eq!(answer.text(), self::answer(by_loop, address).text(), "the original's loop and the one here differ");
+        let saved = self.saved_registers();
+        let answer = answer(by_steps, address, saved);
+        assert_eq!(answer.text(), self::answer(by_loop, address, saved).text(), "the original's loop and the one here differ");
         // A walk that is refused has no tag but its refusal.
         let tag = percent.or_else(|| bytes.map(|_| answer.text()));
         Walked { steps, answer, tag }
+    }
+
+    /// How many registers the word at the start saves, by its fields, as an unconditional push of LR: the record's last field, which the original
+    /// lacks. STMDB SP!, without the S bit and with LR in its list, and STR LR, [SP, #-4]!.
+    fn saved_registers(&self) -> u32 {
+        let code = &self.code[(self.start - self.base) as usize..];
+        match code.first_chunk().map_or(0, |&bytes| u32::from_le_bytes(bytes)) {
+            word if word >> 16 == 0xE92D && word & 1 << 14 != 0 => (word & 0xFFFF).count_ones(),
+            0xE52D_E004 => 1,
+            _ => 0,
+        }
     }
 
     /// The original's own loop and nothing else, for timing.
@@ -257,9 +269,9 @@ fn lists(
     text
 }
 
-fn record(function: &Function) -> String {
+fn record(function: &Function, saved: u32) -> String {
     format!(
-        "function {:08x} {:08x} {:08x} {:08x}\n{}",
+        "function {:08x} {:08x} {:08x} {:08x} {saved:02}\n{}",
         function.start_address,
         function.end_address,
         function.first_instruction_address,
@@ -295,9 +307,9 @@ impl Answer {
 
 type Caught = Result<Result<Function, FunctionAnalysisError>, Panic>;
 
-fn answer(outcome: Caught, address: u32) -> Answer {
+fn answer(outcome: Caught, address: u32, saved: u32) -> Answer {
     match outcome {
-        Ok(Ok(function)) => Answer::Record(record(&function)),
+        Ok(Ok(function)) => Answer::Record(record(&function, saved)),
         Ok(Err(FunctionAnalysisError::IntoFunction { source: IntoFunctionError::ParseFunction { source } })) => refused(source),
         Ok(Err(error)) => panic!("not expected here: {error}"),
         Err(panic) => Answer::Panicked { number: panic.number(), address, message: panic.message },

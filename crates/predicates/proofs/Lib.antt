@@ -1,0 +1,2 @@
+-- What the proofs above this crate share.
+pub mod SavedLaws
