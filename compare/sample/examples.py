@@ -215,6 +215,10 @@ def made_up():
     yield from pools_made_up(refused)
     yield refused("4: a register's pool that is not in the list", NO_4 * 2,
                   [turn((SOURCE, BASE)), turn((SOURCE, 0), (SOURCE + 15, BASE)), turn((SOURCE + 15, 0))])
+    # NOP and the return: once the first has been walked, the sum is 4. Four bytes from the start to the address are enough for it, and none are not.
+    end = 'function 02000000 02000008 02000000 02000008 00\n'
+    yield Example("4: a sum above the walk's address less the start", [NOP, RETURN], 'step 02000000 02000004\n' + NO_4 * 2 + end * 2,
+                  turns=[STEP, turn((START, BASE + 4)), turn((START, BASE), (ADDRESS, BASE)), turn((ADDRESS, BASE + 4))])
     left = 'place 00000001 00000000 00000009\n'
     yield refused('2 before 3 and 4, 3 before 4', f'refused 2 00000000\n{left}refused 2 00000000\n{left}refused 3 00000000\n{left}',
                   [turn((ADDRESS, 0), places=[(IN_LABELS, 0, 9)]), turn((START, BASE + 2)), turn((ADDRESS, BASE)),

@@ -27,7 +27,7 @@ use Rattle.rows.specs.Map.{key_of, stands-in, at_or_above}
 use Rattle.rows.specs.Run.{gap_from}
 use Rattle.walk.specs.Checking.{undefined_register, defined_after}
 use Rattle.context.specs.Context.{Context, Step, on, goes, ends, refuses, ◌▸◌, going_to, with_progress, with_machines, with_registers, with_maps}
-use Rattle.context.specs.Context.{raising, table_to, pool_to, defining, moving, jump_table_to, function_branch_to, inline_table_to, illegal_code_to, pools_to}
+use Rattle.context.specs.Context.{raising, table_to, pool_to, defining, counting, moving, jump_table_to, function_branch_to, inline_table_to, illegal_code_to, pools_to}
 use Rattle.context.specs.Context.{enter_label, enter_pool, enter_jump_table, enter_inline_table, enter_call}
 
 -- a call's mode
@@ -312,20 +312,22 @@ module _ (i : Ins) where
   unfoldable pub from_return : ℕ → ℕ → Bool → Bool → Context → Step
   from_return word size inside returns c =
       final_return i word size inside returns c ▸ entry_after_branch i inside ▸ branch i word size inside ▸ pool_load i ▸ inline_table i ▸ function_call i word
-      ▸ check_defined i returns ▸ goes
+      ▸ check_defined i returns
 
   -- handle_ins_inner
   unfoldable pub handle_ins_inner : ℕ → ℕ → Context → Step
   handle_ins_inner word size c =
       to_return i c ▸ (λ c. from_return word size (in_conditional_block c) (is_return c.progress.address i c.progress.previous) c)
 
-  -- self.prev_ins = Some(ins), and the next turn is at the parser's address
-  abbrev pub passed : Step → Step
-  passed (on c) = goes (with_progress (moving c.next (as_previous i) c.progress) c)
-  passed (goes c) = goes (with_progress (moving c.next (as_previous i) c.progress) c)
-  passed (ends a c) = ends a c
-  passed (refuses n r) = refuses n r
+  -- self.prev_ins = Some(ins), and the next turn is at the parser's address. An instruction that has come past every block makes the sum bytes;
+  -- data that was skipped adds none
+  abbrev pub passed : ℕ → Step → Step
+  passed bytes (on c) = goes (with_progress (moving c.next (as_previous i) (counting bytes c.progress)) c)
+  passed bytes (goes c) = goes (with_progress (moving c.next (as_previous i) c.progress) c)
+  passed bytes (ends a c) = ends a c
+  passed bytes (refuses n r) = refuses n r
 
   -- handle_ins: the parser has passed the instruction, so its address is the next one's
   unfoldable pub handle_ins : ℕ → ℕ → Context → Step
-  handle_ins word size c = passed (handle_ins_inner word size (going_to (c.progress.address + size) c))
+  handle_ins word size c =
+      passed (c.progress.instruction_bytes + size) (handle_ins_inner word size (going_to (c.progress.address + size) c))

@@ -92,27 +92,31 @@ with_maps m c = record { given = c.given; next = c.next; progress = c.progress; 
 
 -- last_conditional_destination.max(..)
 abbrev pub raising : ℕ → Progress → Progress
-raising d p = record { start = p.start; address = p.address; last_conditional_destination = max p.last_conditional_destination d; last_pool_address = p.last_pool_address; jump_table_end_address = p.jump_table_end_address; defined_registers = p.defined_registers; saved_registers = p.saved_registers; previous = p.previous }
+raising d p = record { start = p.start; address = p.address; last_conditional_destination = max p.last_conditional_destination d; last_pool_address = p.last_pool_address; jump_table_end_address = p.jump_table_end_address; defined_registers = p.defined_registers; saved_registers = p.saved_registers; instruction_bytes = p.instruction_bytes; previous = p.previous }
 
 -- jump_table_end_address
 abbrev pub table_to : ℕ → Progress → Progress
-table_to end p = record { start = p.start; address = p.address; last_conditional_destination = p.last_conditional_destination; last_pool_address = p.last_pool_address; jump_table_end_address = end; defined_registers = p.defined_registers; saved_registers = p.saved_registers; previous = p.previous }
+table_to end p = record { start = p.start; address = p.address; last_conditional_destination = p.last_conditional_destination; last_pool_address = p.last_pool_address; jump_table_end_address = end; defined_registers = p.defined_registers; saved_registers = p.saved_registers; instruction_bytes = p.instruction_bytes; previous = p.previous }
 
 -- last_pool_address.max(..)
 abbrev pub pool_to : ℕ → Progress → Progress
-pool_to a p = record { start = p.start; address = p.address; last_conditional_destination = p.last_conditional_destination; last_pool_address = max p.last_pool_address a; jump_table_end_address = p.jump_table_end_address; defined_registers = p.defined_registers; saved_registers = p.saved_registers; previous = p.previous }
+pool_to a p = record { start = p.start; address = p.address; last_conditional_destination = p.last_conditional_destination; last_pool_address = max p.last_pool_address a; jump_table_end_address = p.jump_table_end_address; defined_registers = p.defined_registers; saved_registers = p.saved_registers; instruction_bytes = p.instruction_bytes; previous = p.previous }
 
 -- defined_registers
 abbrev pub defining : ℕ → Progress → Progress
-defining d p = record { start = p.start; address = p.address; last_conditional_destination = p.last_conditional_destination; last_pool_address = p.last_pool_address; jump_table_end_address = p.jump_table_end_address; defined_registers = d; saved_registers = p.saved_registers; previous = p.previous }
+defining d p = record { start = p.start; address = p.address; last_conditional_destination = p.last_conditional_destination; last_pool_address = p.last_pool_address; jump_table_end_address = p.jump_table_end_address; defined_registers = d; saved_registers = p.saved_registers; instruction_bytes = p.instruction_bytes; previous = p.previous }
 
 -- what the function's first instruction saves
 abbrev pub saving : ℕ → Progress → Progress
-saving n p = record { start = p.start; address = p.address; last_conditional_destination = p.last_conditional_destination; last_pool_address = p.last_pool_address; jump_table_end_address = p.jump_table_end_address; defined_registers = p.defined_registers; saved_registers = n; previous = p.previous }
+saving n p = record { start = p.start; address = p.address; last_conditional_destination = p.last_conditional_destination; last_pool_address = p.last_pool_address; jump_table_end_address = p.jump_table_end_address; defined_registers = p.defined_registers; saved_registers = n; instruction_bytes = p.instruction_bytes; previous = p.previous }
+
+-- the sum of the instructions' sizes
+abbrev pub counting : ℕ → Progress → Progress
+counting n p = record { start = p.start; address = p.address; last_conditional_destination = p.last_conditional_destination; last_pool_address = p.last_pool_address; jump_table_end_address = p.jump_table_end_address; defined_registers = p.defined_registers; saved_registers = p.saved_registers; instruction_bytes = n; previous = p.previous }
 
 -- the address of the next turn, and prev_ins
 abbrev pub moving : ℕ → Previous → Progress → Progress
-moving a previous p = record { start = p.start; address = a; last_conditional_destination = p.last_conditional_destination; last_pool_address = p.last_pool_address; jump_table_end_address = p.jump_table_end_address; defined_registers = p.defined_registers; saved_registers = p.saved_registers; previous = previous }
+moving a previous p = record { start = p.start; address = a; last_conditional_destination = p.last_conditional_destination; last_pool_address = p.last_pool_address; jump_table_end_address = p.jump_table_end_address; defined_registers = p.defined_registers; saved_registers = p.saved_registers; instruction_bytes = p.instruction_bytes; previous = previous }
 
 -- ---- to its machines
 

@@ -21,7 +21,7 @@ use Rattle.context.specs.declared.Stepped.{Stepped}
 use Rattle.context.specs.declared.Then.{Then}
 use Rattle.context.specs.declared.Then.TheVariants.{On, Goes, Ends, Refuses}
 use Rattle.context.specs.Blocks.{is_destination}
-use Rattle.context.specs.Context.{Context, Given, Step, on, goes, ends, refuses, label_row, pool_row, table_row, call_row, moving}
+use Rattle.context.specs.Context.{Context, Given, Step, on, goes, ends, refuses, label_row, pool_row, table_row, call_row, counting, moving}
 
 -- ---- assignments to a state
 
@@ -144,14 +144,14 @@ read (Ends a) c = ends a c
 read (Refuses n r) c = refuses n r
 
 -- the code's `pass`
-abbrev pub passes_as : Then → Ins → State → Stepped
-passes_as On i s = record { then = Goes; state = progressed (moving s.next (as_previous i) s.progress) s }
-passes_as Goes i s = record { then = Goes; state = progressed (moving s.next (as_previous i) s.progress) s }
-passes_as (Ends a) i s = record { then = Ends a; state = s }
-passes_as (Refuses n r) i s = record { then = Refuses n r; state = s }
+abbrev pub passes_as : Then → Ins → ℕ → State → Stepped
+passes_as On i bytes s = record { then = Goes; state = progressed (moving s.next (as_previous i) (counting bytes s.progress)) s }
+passes_as Goes i bytes s = record { then = Goes; state = progressed (moving s.next (as_previous i) s.progress) s }
+passes_as (Ends a) i bytes s = record { then = Ends a; state = s }
+passes_as (Refuses n r) i bytes s = record { then = Refuses n r; state = s }
 
-abbrev pub passes : Ins → Stepped → Stepped
-passes i r = passes_as r.then i r.state
+abbrev pub passes : Ins → ℕ → Stepped → Stepped
+passes i bytes r = passes_as r.then i bytes r.state
 
 -- the registers once a pool word is loaded
 abbrev pub loaded_by : Option Load → Registers → Registers

@@ -1,7 +1,7 @@
 -- functions.rs, function_parser_loop_inner without its start check: one turn of the loop, from the word at the walk's address to the walk and
 -- the maps after it.
 -- Assumes nothing.
-use Rattle.std.specs.Prelude.{[], ℕ, eqb, length}
+use Rattle.std.specs.Prelude.{[], ℕ, ◌+◌, eqb, length}
 use Rattle.arm.specs.declared.Ins.{Ins}
 use Rattle.arm.specs.Ins.{decode_of}
 use Rattle.base.specs.Choice.{pick}
@@ -17,7 +17,7 @@ use Rattle.walk.specs.declared.Progress.{Progress}
 use Rattle.walk.specs.declared.Walk.{Walk}
 use Rattle.walk.specs.IntoFunction.{into_function}
 use Rattle.context.specs.Blocks.{handle_ins}
-use Rattle.context.specs.Context.{Maps, Given, Context, Step, on, goes, ends, refuses, with_progress, saving, moving}
+use Rattle.context.specs.Context.{Maps, Given, Context, Step, on, goes, ends, refuses, with_progress, saving, counting, moving}
 
 -- an ARM instruction's bytes
 abbrev pub arm_size : ℕ
@@ -69,12 +69,18 @@ abbrev pub function_of : ℕ → Context → Answer
 function_of end c =
     into_function c.given.options c.progress.start end c.progress.last_pool_address (key_or0 (first_key c.maps.pools)) c.progress.saved_registers
 
+-- the sum with the last instruction, but not where the walk stops before it, as the entry of the next function, nor where it is refused
+abbrev pub bytes_to_end : Answer → ℕ → Progress → ℕ
+bytes_to_end Going end p = p.instruction_bytes
+bytes_to_end (Accepted r) end p = pick (eqb end p.address) p.instruction_bytes (p.instruction_bytes + arm_size)
+bytes_to_end (Refused n a r) end p = p.instruction_bytes
+
 -- the walk stands at the last instruction's end
-abbrev pub ending_at : ℕ → Context → Context
-ending_at end c = record {
+abbrev pub ending_at : Context → ℕ → Context → Context
+ending_at before end c = record {
   given = c.given;
   next = c.next;
-  progress = moving end c.progress.previous c.progress;
+  progress = counting (bytes_to_end (function_of end c) end before.progress) (moving end c.progress.previous c.progress);
   machines = c.machines;
   registers = c.registers;
   maps = c.maps;
@@ -84,7 +90,7 @@ ending_at end c = record {
 abbrev pub settled : Context → Step → Turned
 settled before (on c) = walk_of Going c
 settled before (goes c) = walk_of Going c
-settled before (ends end c) = closed (function_of end c) (ending_at end c)
+settled before (ends end c) = closed (function_of end c) (ending_at before end c)
 settled before (refuses n r) = closed (Refused n before.progress.address r) before
 
 -- an instruction: what the first one saves, which the source does not ask, before what can skip it or end the walk; then handle_ins

@@ -1,7 +1,7 @@
 // The assignments of a step's blocks to the walk's state, and what a block comes to. Functions, not methods: they are the source's
 // assignments under the names of their definitions, and methods would say the same.
 ghost use Rattle.std.specs.Prelude.{◌≡◌};
-ghost use Rattle.context.specs.Context.{raising, table_to, pool_to, defining, saving, moving, jump_table_to, function_branch_to, inline_table_to, illegal_code_to};
+ghost use Rattle.context.specs.Context.{raising, table_to, pool_to, defining, saving, counting, moving, jump_table_to, function_branch_to, inline_table_to, illegal_code_to};
 ghost use Rattle.context.specs.State.{headed, progressed, machined, counted, putting, count_labels, count_pools, count_jump_tables, count_inline_tables, count_calls};
 
 use crate::{NewCall, State, Stepped, Then};
@@ -87,6 +87,19 @@ pub fn save(s: State, saved: u32) -> State
         s,
         Progress {
             saved_registers: saved,
+            ..p
+        },
+    )
+}
+
+pub fn count(s: State, bytes: u32) -> State
+    ensures { result ≡ progressed (counting bytes s.progress) s }
+{
+    let p = s.progress;
+    with_progress(
+        s,
+        Progress {
+            instruction_bytes: bytes,
             ..p
         },
     )

@@ -8,6 +8,7 @@
 pub mod assign;
 
 ghost use Rattle.std.specs.Prelude.{◌≡◌, ◌+◌, ◌<◌, ◌^◌, ltb};
+ghost use Rattle.base.specs.Choice.{pick};
 ghost use Rattle.context.specs.Blocks.{is_in, call_to};
 ghost use Rattle.context.specs.Context.{saving};
 ghost use Rattle.context.specs.State.{is_on, loaded_by, Puts, same, progressed, asks_calls, passes};
@@ -181,12 +182,26 @@ pub fn with_saved(s: State, ins: Ins) -> State
     assign::save(s, saved_first(s.progress, ins))
 }
 
-// handle_ins: the instruction becomes the previous one, and the walk goes on at the parser's address.
-pub fn pass(r: Stepped, ins: Ins) -> Stepped
-    ensures { result ≡ passes ins r }
+// The sum behind a step that goes on: `bytes` behind an instruction, which has come past every block; skipped data adds none.
+fn sum_behind(r: Stepped, bytes: u32) -> u32
+    ensures { result ≡ pick (is_on r.then) bytes r.state.progress.instruction_bytes }
+{
+    if is_on(r) {
+        bytes
+    } else {
+        r.state.progress.instruction_bytes
+    }
+}
+
+// handle_ins: the word becomes the previous instruction, and the walk goes on at the parser's address. `bytes` is the sum with this instruction.
+pub fn pass(r: Stepped, ins: Ins, bytes: u32) -> Stepped
+    ensures { result ≡ passes ins bytes r }
 {
     match r.then {
-        Then::On | Then::Goes => assign::go(assign::move_on(r.state, predicates::as_previous(ins))),
+        Then::On | Then::Goes => {
+            let s = assign::count(r.state, sum_behind(r, bytes));
+            assign::go(assign::move_on(s, predicates::as_previous(ins)))
+        }
         Then::Ends(_) | Then::Refuses { .. } => r,
     }
 }

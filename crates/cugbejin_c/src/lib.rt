@@ -7,7 +7,7 @@ pub mod module_table;
 ghost use Rattle.std.specs.Prelude.{◌≡◌};
 ghost use Rattle.context.specs.Lists.{lists};
 ghost use Rattle.context.specs.Turn.{no_maps, counts_of};
-ghost use Rattle.tag.specs.Bytes.{bytes_of};
+ghost use Rattle.invariants.specs.Bytes.{bytes_of};
 ghost use Rattle.whole.specs.Whole.{run};
 ghost use Rattle.cugbejin_c.specs.Numbers.{known_from, options_from, no_record, record_of, numbers_of, tag_number, tag_numbers, AnsweredIn, TaggedIn};
 
@@ -97,7 +97,8 @@ fn tag_numbers(tag: Tag) -> [u64; 2]
 
 // 0, or the number of a refusal. `answer` then holds that number, the refusal's address and register, the record's start, end, first instruction and
 // last instruction end and how many registers its first instruction saves, and the counts of labels, pools, jump tables, inline tables and calls.
-// No known end where `known` is 0; no check of registers where `check` is 0.
+// No known end where `known` is 0; no check of registers where `check` is 0. By `cugbejin_tag`, so that the walk stands in the library once
+// (docs/SPEED.md).
 #[unsafe(no_mangle)]
 pub extern "C" fn cugbejin_run(
     base: u32,
@@ -118,21 +119,26 @@ pub extern "C" fn cugbejin_run(
 ) -> u32
     ensures { AnsweredIn result answer.new (lists labels.new pools.new jump_tables.new inline_tables.new calls.new) (run (options_from base module_start module_end known known_end check) code.now starts.now start (counts_of no_maps) (lists labels.old pools.old jump_tables.old inline_tables.old calls.old)) }
 {
-    let module = Module {
-        options: options_from(base, module_start, module_end, known, known_end, check),
+    let mut percent = [0; 2];
+    cugbejin_tag(
+        base,
+        module_start,
+        module_end,
+        start,
+        known,
+        known_end,
+        check,
         code,
         starts,
-    };
-    let mut lists = Lists {
         labels,
         pools,
         jump_tables,
         inline_tables,
         calls,
-    };
-    let ran = whole::run(module, start, &mut lists, no_counts());
-    *answer = numbers_of(ran.answer, ran.walk.counts);
-    answers::number(ran.answer) as u32
+        answer,
+        &mut percent,
+    );
+    answer[0] as u32
 }
 
 // The same walk with its tag; `answer` then holds what `cugbejin_run` leaves there. 0 where there is a tag, and `percent` holds its quotient and

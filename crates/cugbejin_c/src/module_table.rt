@@ -90,8 +90,8 @@ pub extern "C" fn cugbejin_append(
     append_number(table.append(found, &lists, counts))
 }
 
-// The file of a table of `count` functions at the start of `out`: 0, and how many bytes it has in `length`; or the refusal's number, 4 or 18, and 0 in
-// `length`, and every byte is as it was.
+// The file of a table of `count` functions at the start of `out`: 0, and how many bytes it has in `length`; or the refusal's number, 4 or 18, and 0
+// in `length`, and every byte is as it was.
 #[unsafe(no_mangle)]
 pub extern "C" fn cugbejin_write(
     functions: &[u32],

@@ -60,7 +60,7 @@ module _ (before : Context) where
   settled-over has-gone = tt
   settled-over (has_ended {a = end} {c = c}) =
       let o = c.given.options in
-      function-over (ltb o.module_end (end_address o.known_end end c.progress.last_pool_address)) _ (ending_at end c)
+      function-over (ltb o.module_end (end_address o.known_end end c.progress.last_pool_address)) _ (ending_at before end c)
   settled-over (is-refused n l) =
       let range = both_true (leb 5 (refusal_no n)) _ l in
       record { least = leb-true _ _ range.0; most = omega (arith, leb-true (refusal_no n) 13 range.1); counted = refl; maps = refl }

@@ -292,20 +292,18 @@ module _ (i : Ins) where
       (chained
       (chained
       (chained
-      (chained
       (chained (chained (final_return-late word size _ _ d) (entry_after_branch-late word size _)) (branch-late word size _))
       pool_load-late)
       inline_table-late)
       (function_call-late word))
       (check_defined-late _))
-      (λ e. has-gone))
 
   pub step-late : (word size : ℕ) (c : Context) → Late (handle_ins i word size c)
   unfolding handle_ins
-  step-late word size c = pass (inner-late word size _)
+  step-late word size c = pass (c.progress.instruction_bytes + size) (inner-late word size _)
     where
-      pass : {s : Step} → Late s → Late (passed i s)
-      pass is-on = has-gone
-      pass has-gone = has-gone
-      pass has_ended = has_ended
-      pass (is-refused n l) = is-refused n l
+      pass : (bytes : ℕ) {s : Step} → Late s → Late (passed i bytes s)
+      pass bytes is-on = has-gone
+      pass bytes has-gone = has-gone
+      pass bytes has_ended = has_ended
+      pass bytes (is-refused n l) = is-refused n l

@@ -194,41 +194,41 @@ module _ (given : Module) (before mid : Lists) (after : List ℕ) where
           ap (λ (t : Then). read t (context_in (given_to given before) h p.state (calls_at after mid))) (s.full (at e))
           ∙ sym (w.full e (ap (placed (has_room a n before.calls)) none))
 
--- and the instruction becomes the previous one
-module _ (i : Ins) (g : Given) (l : Lists) where
-  passes-counts : (t : Then) (s : State) → (passes_as t i s).state.counts ≡ s.counts
+-- and the word becomes the previous instruction
+module _ (i : Ins) (bytes : ℕ) (g : Given) (l : Lists) where
+  passes-counts : (t : Then) (s : State) → (passes_as t i bytes s).state.counts ≡ s.counts
   passes-counts On s = refl
   passes-counts Goes s = refl
   passes-counts (Ends a) s = refl
   passes-counts (Refuses n r) s = refl
 
   passes-read : (x : Registers) (t : Then) (s : State)
-      → read (passes_as t i s).then (context_in g x (passes_as t i s).state l) ≡ passed i (read t (context_in g x s l))
+      → read (passes_as t i bytes s).then (context_in g x (passes_as t i bytes s).state l) ≡ passed i bytes (read t (context_in g x s l))
   passes-read x On s = refl
   passes-read x Goes s = refl
   passes-read x (Ends a) s = refl
   passes-read x (Refuses n r) s = refl
 
   pub handles-passed : {x : Registers} {r p : Stepped} {before : Lists} {step : Step} → Handles g (record { stepped = p; registers = x }) before l step
-      → r ≡ passes i p → Handles g (record { stepped = r; registers = x }) before l (passed i step)
+      → r ≡ passes i bytes p → Handles g (record { stepped = r; registers = x }) before l (passed i bytes step)
   handles-passed {x} {r} {p} h e = rw e (record {
     held = rw (passes-counts p.then p.state) h.held;
     places = h.places;
-    says = passes-read x p.then p.state ∙ ap (passed i) h.says;
+    says = passes-read x p.then p.state ∙ ap (passed i bytes) h.says;
   })
 
 module _ (given : Module) (parsed : Parsed) (s : State) (g : Registers) (before : Lists) where
   pub handles-ins : {labels pools jumps inlines after : List ℕ} {r : Handled} {p x : Stepped} → s.call ≡ None
       → Inner (given_to given before) parsed.ins parsed.word parsed.size (headed (s.progress.address + parsed.size) s) g before (lists labels pools jumps inlines before.calls) r
-      → Stores s.counts.calls before.calls after r.stepped p → length after ≡ length before.calls → x ≡ passes parsed.ins p
+      → Stores s.counts.calls before.calls after r.stepped p → length after ≡ length before.calls → x ≡ passes parsed.ins (s.progress.instruction_bytes + parsed.size) p
       → Handles (given_to given before) (record { stepped = x; registers = r.registers }) before (lists labels pools jumps inlines after)
       (handle_ins parsed.ins parsed.word parsed.size (context_in (given_to given before) g s before))
   unfolding handle_ins
   handles-ins {labels} {pools} {jumps} {inlines} {after} {r} {p} {x} none w stored long is =
       subst
-      (λ (c : Context). Handles (given_to given before) (record { stepped = x; registers = r.registers }) before (lists labels pools jumps inlines after) (passed parsed.ins (handle_ins_inner parsed.ins parsed.word parsed.size c)))
+      (λ (c : Context). Handles (given_to given before) (record { stepped = x; registers = r.registers }) before (lists labels pools jumps inlines after) (passed parsed.ins (s.progress.instruction_bytes + parsed.size) (handle_ins_inner parsed.ins parsed.word parsed.size c)))
       context
-      (handles-passed parsed.ins (given_to given before) (lists labels pools jumps inlines after)
+      (handles-passed parsed.ins (s.progress.instruction_bytes + parsed.size) (given_to given before) (lists labels pools jumps inlines after)
       (handles-stored given before (lists labels pools jumps inlines before.calls) after none w stored long) is)
     where
       context : context_of (headed (s.progress.address + parsed.size) s) (world_of (given_to given before) g (calls_of s before) before)

@@ -134,13 +134,14 @@ pub fn handle_ins<C: CallList>(
     parsed: Parsed,
     lists: &mut Lists<C>,
 ) -> Stepped
-    requires { NoCall s × AllHeld s.counts (lists_of C.numbers lists.old) × Held 1 (length m.starts.now) m.starts.now × (s.progress.address + 4 < 2 ^ 32) × (s.progress.address + parsed.size < 2 ^ 32) }
+    requires { NoCall s × AllHeld s.counts (lists_of C.numbers lists.old) × Held 1 (length m.starts.now) m.starts.now × (s.progress.address + 4 < 2 ^ 32) × (s.progress.address + parsed.size < 2 ^ 32) × (s.progress.instruction_bytes + parsed.size < 2 ^ 32) }
     ensures same { IsSame C.is_same lists.old lists.new }
     ensures handles { Handles (given_to m.entry (lists_of C.numbers lists.old)) (record { stepped = result; registers = registers.new }) (lists_of C.numbers lists.old) (lists_of C.numbers lists.new) (handle_ins parsed.ins parsed.word parsed.size (context_in (given_to m.entry (lists_of C.numbers lists.old)) registers.old s (lists_of C.numbers lists.old))) }
 {
     let n = s.counts;
     let ready = assign::goto(s, s.progress.address + parsed.size);
+    let bytes = s.progress.instruction_bytes + parsed.size;
     let r = handle_ins_inner(m, ready, registers, parsed, lists);
     let entered = put_call(r, n.calls, &mut lists.calls);
-    pass(with_entry(r, n.calls, entered), parsed.ins)
+    pass(with_entry(r, n.calls, entered), parsed.ins, bytes)
 }

@@ -14,7 +14,7 @@ use Rattle.context.specs.declared.Module.{Module}
 use Rattle.context.specs.declared.NewCall.{NewCall}
 use Rattle.context.specs.declared.State.{State}
 use Rattle.context.specs.declared.Stepped.{Stepped}
-use Rattle.context.specs.declared.Then.TheVariants.{On, Goes}
+use Rattle.context.specs.declared.Then.TheVariants.{On}
 use Rattle.context.specs.Context.{Context, Step, on as onward, goes, ends, refuses, ◌▸◌, label_row, pool_row, table_row}
 use Rattle.context.specs.Blocks.{is_destination, skip_pool, mark_pool, forget_written}
 use Rattle.registers.specs.declared.Registers.{Registers}
@@ -110,11 +110,6 @@ pub then-forgets : (i : Ins) {a : ℕ} {k : Option NewCall} {r : Stepped} {w : W
     → Settles a k (record { then = On; state = r.state }) (registers_in (forgotten w.registers i.defs) w) (step ▸ forget_written i)
 unfolding forget_written
 then-forgets i on t = go-settled (forget_written i) on t (record { stays = refl; call = refl; holds = registers-held _ t.holds; says = refl })
-
--- the last block's context goes on at the next instruction
-pub then-goes : {has : Bool} {a : ℕ} {k : Option NewCall} {r : Stepped} {w : World} {step : Step} → is_on r.then ≡ true → Comes has a k r w step
-    → Comes has a k (record { then = Goes; state = r.state }) w (step ▸ goes)
-then-goes on t = go_on goes on t (settled (record { stays = refl; call = refl; holds = t.holds; says = refl }))
 
 -- calls of which what is told holds
 abbrev pub calls_for : Bool → ℕ → List (List ℕ)

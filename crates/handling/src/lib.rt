@@ -102,11 +102,7 @@ fn from_load(
     if !is_on(r2) {
         return r2;
     }
-    let r3 = check_defined(o, r2.state, parsed.ins, returns);
-    if !is_on(r3) {
-        return r3;
-    }
-    assign::go(r3.state)
+    check_defined(o, r2.state, parsed.ins, returns)
 }
 
 // From in_conditional_block and is_return on. No call has been put yet.

@@ -23,7 +23,7 @@ use Rattle.context.specs.Blocks.{call_to, arm, thumb, entry_after_branch, past_g
 use Rattle.context.specs.Blocks.{is_other_function, branches, branched, branch, loaded, pool_load, tabled, after_inline, inline_table, called_as}
 use Rattle.context.specs.Blocks.{function_call, check_defined, is_in, from_return, to_return, handle_ins_inner, passed, handle_ins}
 use Rattle.context.specs.Context.{Context, Maps, Step, on, goes, ends, refuses, ◌▸◌, going_to, with_progress, with_machines, with_registers, with_maps}
-use Rattle.context.specs.Context.{raising, table_to, pool_to, defining, moving, labels_to, pools_to, jump_tables_to, inline_tables_to, calls_to, label_row}
+use Rattle.context.specs.Context.{raising, table_to, pool_to, defining, counting, moving, labels_to, pools_to, jump_tables_to, inline_tables_to, calls_to, label_row}
 use Rattle.context.specs.Context.{pool_row, table_row, call_row}
 use Rattle.predicates.specs.declared.Mode.{Mode}
 use Rattle.predicates.specs.declared.Mode.TheVariants.{Arm, Thumb}
@@ -76,8 +76,8 @@ loaded_from i a value c =
     (with_maps (pools_to (inserted key_of (a ∷ value ∷ other ∷ []) c.maps.pools) c.maps)
     (with_registers (holding c.registers i.rd value a) c))
 
--- the assignments of a step, and a property that each of them keeps; and what it comes to where the step goes on or ends
-pub record Kept (i : Ins) (size : ℕ) (P G : Context → Type 0) (E : ℕ → Context → Type 0) : Type 0 where
+-- the assignments of a step, and a property that each of them keeps; and what it comes to where the step ends
+pub record Kept (i : Ins) (size : ℕ) (P : Context → Type 0) (E : ℕ → Context → Type 0) : Type 0 where
   pub machines : (m : Machines) (c : Context) → P c → P (with_machines m c)
   pub raises : (d : ℕ) (c : Context) → P c → P (with_progress (raising d c.progress) c)
   pub tables : (d : ℕ) (c : Context) → P c → P (with_progress (table_to d c.progress) c)
@@ -91,7 +91,6 @@ pub record Kept (i : Ins) (size : ℕ) (P G : Context → Type 0) (E : ℕ → C
   pub loads : (a value : ℕ) (c : Context) → word_from c.given.code c.given.options.base a ≡ Some value
       → fits pool_row c.given.places.pools (inserted key_of (a ∷ value ∷ other ∷ []) c.maps.pools) ≡ true
       → P c → P (loaded_from i a value c)
-  pub goes : (c : Context) → P c → G c
   pub ends : (c : Context) → P c → E (c.progress.address + size) c
   pub entry : is_entry_instruction i ≡ true → (c : Context) → P c → E c.progress.address c
 
@@ -131,7 +130,7 @@ before_branch i word size c =
     final_return i word size (in_conditional_block c) (is_return c.progress.address i c.progress.previous) c
     ▸ entry_after_branch i (in_conditional_block c))
 
-module _ (i : Ins) (size : ℕ) (P G : Context → Type 0) (E : ℕ → Context → Type 0) (k : Kept i size P G E) where
+module _ (i : Ins) (size : ℕ) (P G : Context → Type 0) (E : ℕ → Context → Type 0) (k : Kept i size P E) where
   abbrev Meet : Step → Type 0
   Meet s = Meets P G E s
 
@@ -272,7 +271,7 @@ module _ (i : Ins) (size : ℕ) (P G : Context → Type 0) (E : ℕ → Context 
       (λ c p. chained (final_return-kept word (in_conditional_block c) (is_return c.progress.address i c.progress.previous) c p)
       (entry_kept (in_conditional_block c)))
 
-module _ (i : Ins) (size : ℕ) (P G : Context → Type 0) (E : ℕ → Context → Type 0) (k : Kept i size P G E) (jumps : Jumps size P) where
+module _ (i : Ins) (size : ℕ) (P G : Context → Type 0) (E : ℕ → Context → Type 0) (k : Kept i size P E) (jumps : Jumps size P) where
   abbrev Comes : Step → Type 0
   Comes s = Meets P G E s
 
@@ -324,11 +323,10 @@ module _ (i : Ins) (size : ℕ) (P G : Context → Type 0) (E : ℕ → Context 
 
   -- ---- and so the step
 
-  from_return-kept : (word : ℕ) (block returns : Bool) (c : Context) → P c → Meets (λ _. ⊥) G E (from_return i word size block returns c)
+  from_return-kept : (word : ℕ) (block returns : Bool) (c : Context) → P c → Comes (from_return i word size block returns c)
   unfolding from_return
   from_return-kept word block returns c p =
       chained
-      (chained
       (chained
       (chained
       (chained
@@ -338,11 +336,10 @@ module _ (i : Ins) (size : ℕ) (P G : Context → Type 0) (E : ℕ → Context 
       (pool_load-kept i size P G E k))
       (inline_table-kept i size P G E k))
       (function_call-kept i size P G E k word))
-      (check_defined-kept i size P G E k returns))
-      (λ c p. has-gone (k.goes c p))
+      (check_defined-kept i size P G E k returns)
 
   handle_ins_inner-kept : (word : ℕ) (c : Context) → P c → ((n : ℕ) → Skips c n → G (going_to n c))
-      → Meets (λ _. ⊥) G E (handle_ins_inner i word size c)
+      → Comes (handle_ins_inner i word size c)
   unfolding handle_ins_inner
   handle_ins_inner-kept word c p g = chained (to_return-kept i size P G E k c p g) (λ c p. from_return-kept word _ _ c p)
 
@@ -352,9 +349,13 @@ module _ (i : Ins) (size : ℕ) (P G : Context → Type 0) (E : ℕ → Context 
 abbrev pub moved : Ins → Context → Context
 moved i c = with_progress (moving c.next (as_previous i) c.progress) c
 
-module _ (i : Ins) (G : Context → Type 0) where
-  passed-kept : {E : ℕ → Context → Type 0} {s : Step} → Meets (λ _. ⊥) (λ c. G (moved i c)) E s → Meets (λ _. ⊥) G E (passed i s)
-  passed-kept (is-on p) = absurd p
+-- and an instruction, unlike skipped data, is counted
+abbrev pub counted : ℕ → Context → Context
+counted bytes c = with_progress (counting bytes c.progress) c
+
+module _ (i : Ins) (bytes : ℕ) (P G : Context → Type 0) (E : ℕ → Context → Type 0) (goes : (c : Context) → P c → G (moved i (counted bytes c))) where
+  pub passed-kept : {s : Step} → Meets P (λ c. G (moved i c)) E s → Meets (λ _. ⊥) G E (passed i bytes s)
+  passed-kept (is-on {c} p) = has-gone (goes c p)
   passed-kept (has-gone g) = has-gone g
   passed-kept (has_ended e) = has_ended e
   passed-kept is-refused = is-refused
@@ -364,20 +365,21 @@ pub never_on : (i : Ins) (word size : ℕ) (c d : Context) → handle_ins i word
 unfolding handle_ins
 never_on i word size c d e = step (handle_ins_inner i word size (going_to (c.progress.address + size) c)) e
   where
-    step : (s : Step) → passed i s ≡ on d → ⊥
+    step : (s : Step) → passed i (c.progress.instruction_bytes + size) s ≡ on d → ⊥
     step (on b) e = let z : ◌≡◌ {A = ℕ} 0 1 = cc in omega arith
     step (goes b) e = let z : ◌≡◌ {A = ℕ} 0 1 = cc in omega arith
     step (ends a b) e = let z : ◌≡◌ {A = ℕ} 0 1 = cc in omega arith
     step (refuses n r) e = let z : ◌≡◌ {A = ℕ} 0 1 = cc in omega arith
 
-module _ (i : Ins) (size : ℕ) (P G : Context → Type 0) (E : ℕ → Context → Type 0) (k : Kept i size P (λ c. G (moved i c)) E)
-    (jumps : Jumps size P) where
+module _ (i : Ins) (size : ℕ) (P G : Context → Type 0) (E : ℕ → Context → Type 0) (k : Kept i size P E) (jumps : Jumps size P) where
   pub handle_ins-kept : (word : ℕ) (c : Context) → P (going_to (c.progress.address + size) c)
+      → ((d : Context) → P d → G (moved i (counted (c.progress.instruction_bytes + size) d)))
       → ((n : ℕ) → Skips c n → G (moved i (going_to n c)))
       → Meets (λ _. ⊥) G E (handle_ins i word size c)
   unfolding handle_ins
-  handle_ins-kept word c p g =
-      passed-kept i G (handle_ins_inner-kept i size P (λ c. G (moved i c)) E k jumps word (going_to (c.progress.address + size) c) p skips)
+  handle_ins-kept word c p h g =
+      passed-kept i (c.progress.instruction_bytes + size) P G E h
+      (handle_ins_inner-kept i size P (λ d. G (moved i d)) E k jumps word (going_to (c.progress.address + size) c) p skips)
     where
       skips : (n : ℕ) → Skips (going_to (c.progress.address + size) c) n → G (moved i (going_to n c))
       skips n (pool e) = g _ (pool e)

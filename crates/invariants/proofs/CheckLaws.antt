@@ -1,6 +1,6 @@
 -- The refusals 1 to 4: what a begin or a step that passed them has shown.
 -- Assumes nothing.
-use Rattle.base.proofs.Prelude.{◌≡◌, true, List, ℕ, ◌%◌, arith, eqb, length, eq-eqb, le-leb, eqb-true}
+use Rattle.base.proofs.Prelude.{◌≡◌, true, List, ℕ, ◌+◌, ◌%◌, arith, eqb, length, eq-eqb, le-leb, eqb-true}
 use Rattle.std.specs.Prelude.{Ok}
 use Rattle.base.specs.declared.refusal.Refusal.TheVariants.{BadWindow, BadStart, UnalignedStart, BadLists}
 use Rattle.context.specs.Lists.{Lists, AllHeld}
@@ -9,7 +9,7 @@ use Rattle.rows.specs.Map.{Held}
 use Rattle.rows.proofs.MapLaws.{held-in-order, in-order-held}
 use Rattle.stepper.specs.Stepper.{check_at}
 pub use Rattle.validity.proofs.Laws.{Passed, passes, number_passed}
-use Rattle.validity.specs.Validity.{is_window, is_in_code, are_starts, are_pools, are_lists, begin_check, step_check}
+use Rattle.validity.specs.Validity.{is_window, is_in_code, are_starts, are_pools, are_bytes, are_lists, begin_check, step_check}
 use Rattle.walk.specs.declared.Counts.{Counts}
 use Rattle.walk.specs.declared.Options.{Options}
 use Rattle.walk.specs.declared.Walk.{Walk}
@@ -47,7 +47,7 @@ module _ (n : Counts) (l : Lists) where
 
 module _ (o : Options) (code starts : List ℕ) (w : Walk) (l : Lists) where
   pub passed-number : Passed o code starts w l → check_at o code starts w l ≡ Ok tt
-  unfolding step_check are_lists are_pools are_starts
+  unfolding step_check are_bytes are_lists are_pools are_starts
   passed-number p =
       rw (
         p.window,
@@ -55,6 +55,7 @@ module _ (o : Options) (code starts : List ℕ) (w : Walk) (l : Lists) where
         le-leb o.base w.progress.address p.above,
         eq-eqb (w.progress.start % 4) 0 p.aligned,
         held-in-order p.ascends,
+        le-leb (w.progress.start + w.progress.instruction_bytes) w.progress.address p.bytes,
         held-order w.counts l p.lists,
         p.whole,
         eq-eqb _ _ p.last,

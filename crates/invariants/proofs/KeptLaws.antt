@@ -20,6 +20,7 @@ use Rattle.walk.specs.declared.Counts.{Counts}
 use Rattle.walk.specs.declared.Options.{Options}
 use Rattle.walk.specs.declared.Walk.{Walk}
 use Rattle.walk.specs.IntoFunction.{begun}
+use Rattle.invariants.proofs.BytesLaws.{turn-start, turn-within}
 use Rattle.invariants.proofs.BlockLaws.{Meets, is-on, has-gone, has_ended, is-refused, gone}
 use Rattle.invariants.proofs.CheckLaws.{Begins, Passed, number_passed, passed-number}
 use Rattle.invariants.proofs.TurnLaws.{turn-onward, turn-past, turn-counts}
@@ -108,7 +109,7 @@ module _ (g : Given) (w : Walk) (m : Maps) where
   settled-fits (is-on q) k = absurd q
   settled-fits (has-gone q) (has-gone k) = rw (ap (λ (x : Given). x.places) k.0) at q.0
   settled-fits (has_ended {a = e} {c = c} q) (has_ended k) =
-      closed-fits g.places (function_of e c) (ending_at e c) (rw (ap (λ (x : Given). x.places) k.0) at q.0)
+      closed-fits g.places (function_of e c) (ending_at before e c) (rw (ap (λ (x : Given). x.places) k.0) at q.0)
   settled-fits is-refused k = none-fits g.places
 
   word_fits : Sound before → (x : Option ℕ) → AllFit g.places (turn_at x before).maps
@@ -122,19 +123,13 @@ module _ (g : Given) (w : Walk) (m : Maps) where
   unfolding turn
   sound-fits p = word_fits p (word_from g.code g.options.base w.progress.address)
 
-  -- one that goes on keeps what check 4 asks for, and the start
+  -- one that goes on keeps what check 4 asks of the pools
   pub sound-kept : Sound (context_at g w m) → is_going (turn g w m).walk.result ≡ true → Sound (context_at g (turn g w m).walk (turn g w m).maps)
   sound-kept p h =
       let t = turn-onward g w m h in
       let i = decode_of t.word w.progress.address in
       let k = gone t.to (step_same i t.word arm_size (with_saved i before)) t.step in
       rw t.is (rw k.0 at (gone t.to (step-sound i t.word arm_size (with_saved i before) p) t.step))
-
-  pub start-kept : is_going (turn g w m).walk.result ≡ true → (turn g w m).walk.progress.start ≡ w.progress.start
-  start-kept h =
-      let t = turn-onward g w m h in
-      let i = decode_of t.word w.progress.address in
-      rw t.is (gone t.to (step_same i t.word arm_size (with_saved i before)) t.step).1
 
 -- ---- a turn from a walk that passes the checks
 
@@ -157,7 +152,7 @@ module _ (o : Options) (code starts : List ℕ) (w : Walk) (l : Lists) (p : Pass
   pub turn-passed : is_going (turn (given_by o code starts l) w (maps_in w.counts l)).walk.result ≡ true
       → Passed o code starts after.walk (written l after.maps)
   turn-passed h =
-      let start = start-kept given w maps h in
+      let start = turn-start given w maps in
       let sound = sound-kept given w maps passed-sound h in
       let counts = turn-counts given w maps in
       let pools = encode-map pool_row (length l.pools) after.maps.pools turn-fits.pools.is.wide in
@@ -169,6 +164,7 @@ module _ (o : Options) (code starts : List ℕ) (w : Walk) (l : Lists) (p : Pass
         above = omega arith;
         aligned = rw start p.aligned;
         ascends = p.ascends;
+        bytes = turn-within given w maps p.bytes;
         lists = rw counts (written_held l after.maps turn-fits);
         whole = rw (counts, pools) sound.1.whole;
         last = rw (counts, pools) sound.1.is_last;
@@ -209,6 +205,7 @@ begun-passed o a code starts l b = record {
   above = leb-true o.base a (both_first (leb o.base a) _ b.start);
   aligned = b.aligned;
   ascends = b.ascends;
+  bytes = omega arith;
   lists = written_held l no_maps (none-fits (places_of l));
   whole = refl;
   last = refl;

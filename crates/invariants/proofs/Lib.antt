@@ -8,6 +8,7 @@ pub mod WordLaws
 pub mod PoolLaws
 pub mod SoundLaws
 pub mod TurnLaws
+pub mod BytesLaws
 pub mod KeptLaws
 pub mod EndingLaws
 pub mod SavedLaws

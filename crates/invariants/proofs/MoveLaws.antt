@@ -45,8 +45,8 @@ module _ (i : Ins) (size a : ℕ) where
   abbrev pub EndsAt : ℕ → Type 0
   EndsAt e = (e ≡ a + size) ⊎ ((e ≡ a) × (is_entry_instruction i ≡ true))
 
-  ahead-kept : (G : Context → Type 0) → ((c : Context) → a + size ≤ c.next → G c) → Kept i size Ahead G (λ e c. EndsAt e)
-  ahead-kept G g = record {
+  ahead-kept : Kept i size Ahead (λ e c. EndsAt e)
+  ahead-kept = record {
     machines = λ m c p. p;
     raises = λ d c p. p;
     tables = λ d c p. p;
@@ -58,7 +58,6 @@ module _ (i : Ins) (size a : ℕ) where
     inline_tables = λ r c w f p. p;
     calls = λ r c w f p. p;
     loads = λ x v c w f p. p;
-    goes = λ c p. g c p.1;
     ends = λ c p. inl (ap (λ (x : ℕ). x + size) p.0);
     entry = λ e c p. inr (p.0, e);
   }
@@ -77,7 +76,7 @@ module _ (i : Ins) (word size : ℕ) (c : Context) where
       let a = c.progress.address in
       gone c'
       (handle_ins-kept i size (Ahead i size a) (λ d. a + size ≤ d.progress.address) (λ e d. EndsAt i size a e)
-      (ahead-kept i size a _ (λ d h. h)) (ahead-jumps i size a) word c (refl, omega arith) none-skip)
+      (ahead-kept i size a) (ahead-jumps i size a) word c (refl, omega arith) (λ d p. p.1) none-skip)
       e
     where
       none-skip : (n : ℕ) → Skips c n → c.progress.address + size ≤ n
@@ -89,7 +88,7 @@ module _ (i : Ins) (word size : ℕ) (c : Context) where
   comes s =
       let a = c.progress.address in
       handle_ins-kept i size (Ahead i size a) (λ d. a < d.progress.address) (λ e d. EndsAt i size a e)
-      (ahead-kept i size a _ (λ d h. omega arith)) (ahead-jumps i size a) word c (refl, omega arith) (λ n h. skip-past c n h)
+      (ahead-kept i size a) (ahead-jumps i size a) word c (refl, omega arith) (λ d p. omega (arith, p.1)) (λ n h. skip-past c n h)
 
   pub goes-past : (c' : Context) → 0 < size → handle_ins i word size c ≡ goes c' → c.progress.address < c'.progress.address
   goes-past c' s e = gone c' (comes s) e
@@ -102,7 +101,7 @@ module _ (i : Ins) (word size : ℕ) (c : Context) where
 abbrev pub AtNext : ℕ → Context → Type 0
 AtNext size c = c.next ≡ c.progress.address + size
 
-next-kept : (i : Ins) (size : ℕ) → Kept i size (AtNext size) (λ d. Unit {0}) (λ e d. Unit {0})
+next-kept : (i : Ins) (size : ℕ) → Kept i size (AtNext size) (λ e d. Unit {0})
 next-kept i size = record {
   machines = λ m c p. p;
   raises = λ d c p. p;
@@ -115,7 +114,6 @@ next-kept i size = record {
   inline_tables = λ r c w f p. p;
   calls = λ r c w f p. p;
   loads = λ x v c w f p. p;
-  goes = λ c p. tt;
   ends = λ c p. tt;
   entry = λ e c p. tt;
 }
@@ -129,8 +127,7 @@ pub never_back : (i : Ins) (size : ℕ) (c c' : Context) → AtNext size c → p
     → c.progress.address + size ≤ c'.next
 never_back i size c c' at e =
     let a = c.progress.address in
-    let kept = ahead-kept i size a (λ d. Unit {0}) (λ d h. tt) in
-    (stayed c' (past_pools-kept i size (Ahead i size a) (λ d. Unit {0}) (λ e d. EndsAt i size a e) kept (ahead-jumps i size a) c (refl, omega arith)) e).1
+    (stayed c' (past_pools-kept i size (Ahead i size a) (λ d. Unit {0}) (λ e d. EndsAt i size a e) (ahead-kept i size a) (ahead-jumps i size a) c (refl, omega arith)) e).1
 
 -- ---- handle_label's arm "no further label, forward branch"
 

@@ -123,7 +123,7 @@ module _ (g : Given) (start : ℕ) where
     settled-tells r word found (ends end x) e h =
         let i = decode_of word a in
         let same = ended end x (step_same i word arm_size (with_saved i before)) e in
-        let is = record-tells x.given.options x.progress.start end x.progress.last_pool_address _ x.progress.saved_registers r (sym (closed-result (function_of end x) (ending_at end x)) ∙ h) in
+        let is = record-tells x.given.options x.progress.start end x.progress.last_pool_address _ x.progress.saved_registers r (sym (closed-result (function_of end x) (ending_at before end x)) ∙ h) in
         record { first = is.first ∙ same.1 ∙ k.starts; saves = is.saves ∙ same.2 ∙ first-saved word found }
     settled-tells r word found (refuses n q) e h = absurd (no_record h tt)
 

@@ -16,7 +16,7 @@ use Rattle.rows.specs.Map.{key_of, stands-in, Map, fits}
 use Rattle.rows.proofs.RowLaws.{ascending-kept, inserted-length, stands-inserted}
 use Rattle.validity.specs.Validity.{is_whole, are_whole, are_held}
 use Rattle.walk.specs.declared.Counts.{Counts}
-use Rattle.invariants.proofs.BlockLaws.{Meets, Kept, loaded_from, moved, handle_ins-kept}
+use Rattle.invariants.proofs.BlockLaws.{Meets, Kept, loaded_from, handle_ins-kept}
 use Rattle.invariants.proofs.PoolLaws.{wide-inserted, whole-stands, whole-inserted, last_of, stands-last, last-inserted, held_more}
 use Rattle.invariants.proofs.PoolLaws.{held-cleared, held-set}
 use Rattle.invariants.proofs.WordLaws.{found_inside}
@@ -109,7 +109,7 @@ whole-found code base a w e = let i = found_inside code base a w e in rw (le-leb
 
 module _ (i : Ins) (size : ℕ) where
   same_kept : (g : Given) (start saved : ℕ)
-      → Kept i size (Same g start saved) (λ c. Same g start saved (moved i c)) (λ e c. Same g start saved c)
+      → Kept i size (Same g start saved) (λ e c. Same g start saved c)
   same_kept g start saved = record {
     machines = λ m c p. p;
     raises = λ d c p. p;
@@ -122,7 +122,6 @@ module _ (i : Ins) (size : ℕ) where
     inline_tables = λ r c w f p. p;
     calls = λ r c w f p. p;
     loads = λ x v c w f p. p;
-    goes = λ c p. p;
     ends = λ c p. p;
     entry = λ e c p. p;
   }
@@ -149,7 +148,7 @@ module _ (i : Ins) (size : ℕ) where
         },
       )
 
-  sound-kept : Kept i size Sound (λ c. Sound (moved i c)) (λ e c. Sound c)
+  sound-kept : Kept i size Sound (λ e c. Sound c)
   unfolding forgotten
   sound-kept = record {
     machines = λ m c p. p;
@@ -215,7 +214,6 @@ module _ (i : Ins) (size : ℕ) where
       p.1,
     );
     loads = loads-kept;
-    goes = λ c p. p;
     ends = λ c p. p;
     entry = λ e c p. p;
   }
@@ -227,7 +225,7 @@ module _ (i : Ins) (word size : ℕ) (c : Context) where
   pub step_same : Meets (λ _. ⊥) IsSame (λ e d. IsSame d) (handle_ins i word size c)
   step_same =
       handle_ins-kept i size IsSame _ _ (same_kept i size c.given c.progress.start c.progress.saved_registers) (λ n d h p. p) word c (refl, refl, refl)
-      (λ n h. (refl, refl, refl))
+      (λ d p. p) (λ n h. (refl, refl, refl))
 
   pub step-sound : Sound c → Meets (λ _. ⊥) Sound (λ e d. Sound d) (handle_ins i word size c)
-  step-sound p = handle_ins-kept i size Sound _ _ (sound-kept i size) (λ n d h p. p) word c p (λ n h. p)
+  step-sound p = handle_ins-kept i size Sound _ _ (sound-kept i size) (λ n d h p. p) word c p (λ d q. q) (λ n h. p)

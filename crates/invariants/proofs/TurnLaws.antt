@@ -60,7 +60,7 @@ module _ (g : Given) (w : Walk) (m : Maps) where
       settle word f (ends end c) e h =
           absurd
           (let r : is_going (function_of end c) ≡ false = function-ends end c in
-          let same = closed-result (function_of end c) (ending_at end c) in
+          let same = closed-result (function_of end c) (ending_at before end c) in
           let z : ◌≡◌ {A = ℕ} 0 1 = cc in
           omega arith)
       settle word f (refuses n r) e h = absurd (let z : ◌≡◌ {A = ℕ} 0 1 = cc in omega arith)
@@ -86,7 +86,7 @@ module _ (g : Given) (w : Walk) (m : Maps) where
   settled-counts : (s : Step) → (settled before s).walk.counts ≡ counts_of (settled before s).maps
   settled-counts (on c) = refl
   settled-counts (goes c) = refl
-  settled-counts (ends e c) = closed-counts (function_of e c) (ending_at e c)
+  settled-counts (ends e c) = closed-counts (function_of e c) (ending_at before e c)
   settled-counts (refuses n r) = refl
 
   word_counts : (x : Option ℕ) → (turn_at x before).walk.counts ≡ counts_of (turn_at x before).maps

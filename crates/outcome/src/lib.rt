@@ -1,9 +1,9 @@
 // What a step comes to: the walk after it.
 #![tactic(auto)]
 
-ghost use Rattle.std.specs.Prelude.{◌≡◌};
+ghost use Rattle.std.specs.Prelude.{◌≡◌, ◌+◌, ◌<◌, ◌^◌};
 ghost use Rattle.context.specs.Context.{pool_row};
-ghost use Rattle.context.specs.Turn.{key_or0, no_maps, counts_of};
+ghost use Rattle.context.specs.Turn.{key_or0, no_maps, counts_of, bytes_to_end};
 ghost use Rattle.rows.specs.Map.{Held, map_in, first_key};
 ghost use Rattle.outcome.specs.Outcome.{state_of, walk_in, with_counts, refused_walk, ends_at, settles, is_refused};
 
@@ -11,7 +11,10 @@ use base::refusal::Refusal;
 use context::{Handled, Pools, State, Then};
 use registers::Registers;
 use walk::into_function::into_function;
-use walk::{Answer, Counts, Options, Walk};
+use walk::{Answer, Counts, Options, Progress, Walk};
+
+// The bytes of an ARM instruction.
+const ARM_SIZE: u32 = 4;
 
 // The state before a step.
 pub fn state_of(w: Walk) -> State
@@ -66,9 +69,28 @@ fn first_pool(pools: &Pools) -> u32
     pools.first().unwrap_or(0)
 }
 
-// into_function, from the last instruction's end.
-fn end_at(o: Options, s: State, registers: Registers, end: u32, pools: &Pools) -> Walk
-    ensures { result ≡ ends_at o (key_or0 (first_key pools.now.rows.now)) end registers s }
+// The sum with the last instruction, but not where the walk stops before it, as the entry of the next function, nor where it is refused.
+fn bytes_to_end(answer: Answer, end: u32, p: Progress) -> u32
+    requires { p.instruction_bytes + 4 < 2 ^ 32 }
+    ensures { result ≡ bytes_to_end answer end p }
+{
+    match answer {
+        Answer::Accepted(_) if end != p.address => p.instruction_bytes + ARM_SIZE,
+        _ => p.instruction_bytes,
+    }
+}
+
+// into_function, from the last instruction's end, for a walk that stood at `before`.
+fn end_at(
+    o: Options,
+    before: Progress,
+    s: State,
+    registers: Registers,
+    end: u32,
+    pools: &Pools,
+) -> Walk
+    requires { before.instruction_bytes + 4 < 2 ^ 32 }
+    ensures { result ≡ ends_at o before (key_or0 (first_key pools.now.rows.now)) end registers s }
 {
     let p = s.progress;
     let pool = first_pool(pools);
@@ -82,18 +104,22 @@ fn end_at(o: Options, s: State, registers: Registers, end: u32, pools: &Pools) -
     );
     let mut ended = s;
     ended.progress.address = end;
+    ended.progress.instruction_bytes = bytes_to_end(result, end, before);
     walk_in(ended, registers, result)
 }
 
 // What a step comes to; a refused one leaves the walk as it was, but for its result and the counts, by which the lists are cleared.
 pub fn settle(o: Options, w: Walk, h: Handled, pools: &[u32]) -> Walk
-    requires { Held pool_row h.stepped.state.counts.pools pools.now }
+    requires { Held pool_row h.stepped.state.counts.pools pools.now × (w.progress.instruction_bytes + 4 < 2 ^ 32) }
     ensures { result ≡ settles o w (key_or0 (first_key (map_in pool_row h.stepped.state.counts.pools pools.now))) h.stepped.then h.registers h.stepped.state }
 {
     let s = h.stepped.state;
     match h.stepped.then {
         Then::On | Then::Goes => walk_in(s, h.registers, Answer::Going),
-        Then::Ends(end) => end_at(o, s, h.registers, end, &Pools::new(pools, s.counts.pools)),
+        Then::Ends(end) => {
+            let pools = Pools::new(pools, s.counts.pools);
+            end_at(o, w.progress, s, h.registers, end, &pools)
+        }
         Then::Refuses { refusal, register } => {
             refused_walk(w, s.counts, refusal, w.progress.address, register)
         }

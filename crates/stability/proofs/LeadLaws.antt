@@ -72,7 +72,7 @@ module _ (g : Given) (w : Walk) (m : Maps) where
   settled-rises word (on x) e = absurd (never_on (decode_of word a) word arm_size (ready word) x e)
   settled-rises word (goes x) e = let past = goes-past (decode_of word a) word arm_size (ready word) x (omega arith) e in omega arith
   settled-rises word (ends end x) e =
-      rw (closed-address (function_of end x) (ending_at end x)) (above (ends_at (decode_of word a) word arm_size (ready word) end x (omega arith) e))
+      rw (closed-address (function_of end x) (ending_at before end x)) (above (ends_at (decode_of word a) word arm_size (ready word) end x (omega arith) e))
     where
       above : EndsAt (decode_of word a) arm_size a end → a ≤ end
       above (inl h) = omega arith
@@ -93,7 +93,7 @@ module _ (g : Given) (w : Walk) (m : Maps) where
   settled-return word code p returns (on x) e k = absurd (never_on (decode_of word a) word arm_size (ready word) x e)
   settled-return word code p returns (goes x) e k = goes-next (decode_of word a) word arm_size (ready word) x code.pools code.tables e
   settled-return word code p returns (ends end x) e k =
-      rw (closed-address (function_of end x) (ending_at end x)) (past (ends_at (decode_of word a) word arm_size (ready word) end x (omega arith) e))
+      rw (closed-address (function_of end x) (ending_at before end x)) (past (ends_at (decode_of word a) word arm_size (ready word) end x (omega arith) e))
     where
       past : EndsAt (decode_of word a) arm_size a end → a + arm_size ≤ end
       past (inl h) = omega arith
@@ -114,9 +114,9 @@ module _ (g : Given) (w : Walk) (m : Maps) where
   settled-ends r (on x) e = absurd (no_record e tt)
   settled-ends r (goes x) e = absurd (no_record e tt)
   settled-ends r (ends end x) e =
-      closed-address (function_of end x) (ending_at end x)
+      closed-address (function_of end x) (ending_at before end x)
       ∙ record-last x.given.options x.progress.start end x.progress.last_pool_address (key_or0 (first_key x.maps.pools)) x.progress.saved_registers r
-      (sym (closed-result (function_of end x) (ending_at end x)) ∙ e)
+      (sym (closed-result (function_of end x) (ending_at before end x)) ∙ e)
   settled-ends r (refuses n k) e = absurd (no_record e tt)
 
   pub turn-ends : (r : Record) → (turn g w m).walk.result ≡ Accepted r → (turn g w m).walk.progress.address ≡ r.last_instruction_end

@@ -10,3 +10,4 @@ pub mod LeadLaws
 pub mod StepLaws
 pub mod ReachLaws
 pub mod StableLaws
+pub mod SumLaws

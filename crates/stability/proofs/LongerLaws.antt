@@ -72,6 +72,7 @@ module _ (o : Options) (c d starts : List ℕ) (longer : length c ≤ length d) 
     above = p.above;
     aligned = p.aligned;
     ascends = p.ascends;
+    bytes = p.bytes;
     lists = record {
       labels = p.lists.labels;
       pools = s.other;

@@ -47,11 +47,11 @@ module _ (o : Options) (starts c : List ℕ) (r : Record) where
       omega arith
 
   -- a call that answers with the record has left a walk that ended so
-  record Honest (x : After) : Type 0 where
-    says : x.answer ≡ Accepted r → x.walk.result ≡ Accepted r
-    ends : x.walk.result ≡ Accepted r → x.walk.progress.address ≡ r.last_instruction_end
+  pub record Honest (x : After) : Type 0 where
+    pub says : x.answer ≡ Accepted r → x.walk.result ≡ Accepted r
+    pub ends : x.walk.result ≡ Accepted r → x.walk.progress.address ≡ r.last_instruction_end
 
-  finish-honest : (x : After) → Honest x → Honest (after_action o c starts finishes x)
+  pub finish-honest : (x : After) → Honest x → Honest (after_action o c starts finishes x)
   unfolding finish
   finish-honest x h = record { says = go x.walk.result; ends = h.ends }
     where
@@ -65,7 +65,7 @@ module _ (o : Options) (starts c : List ℕ) (r : Record) where
     abbrev step_by : Bool → Result (Unit {0}) Refusal → After
     step_by going check = pick going (step_where o c starts w l check) (unchanged w l w.result)
 
-    step-honest : (w.result ≡ Accepted r → w.progress.address ≡ r.last_instruction_end) → Honest (step o c starts w l)
+    pub step-honest : (w.result ≡ Accepted r → w.progress.address ≡ r.last_instruction_end) → Honest (step o c starts w l)
     unfolding step
     step-honest h = go (is_going w.result) (check_at o c starts w l)
       where
@@ -101,7 +101,7 @@ module _ (o : Options) (starts c : List ℕ) (r : Record) where
     abbrev check : Result (Unit {0}) Refusal
     check = begin_check o start (length c) starts
 
-    begin-honest : Honest (begin o start c starts n l)
+    pub begin-honest : Honest (begin o start c starts n l)
     unfolding begin begun
     begin-honest = go check
       where

@@ -54,6 +54,7 @@ module _ (o : Options) (starts c d : List ℕ) (longer : length c ≤ length d) 
   in-step-same w l a values pools t = record {
     answers = refl;
     counts = refl;
+    bytes = refl;
     labels = refl;
     pools = same-pools c d o.base t.slices;
     jump_tables = refl;

@@ -10,8 +10,8 @@ use Rattle.base.specs.Words.{word_from}
 use Rattle.context.specs.Blocks.{table_end_at, inline_table_at, skips_to, skip_pool, skip_inline_table, jump_table, illegal_code, branch_outside, mark_pool}
 use Rattle.context.specs.Blocks.{forget_written, in_conditional_block, entry_after_branch, branch, pool_load, inline_table, function_call, check_defined}
 use Rattle.context.specs.Blocks.{from_return, to_return, handle_ins_inner, passed, handle_ins}
-use Rattle.context.specs.Context.{Maps, Given, Context, Step, on, goes, refuses, ◌▸◌, going_to, with_progress, moving, pools_to}
-use Rattle.context.specs.Turn.{arm_size, Turned, context_at, walk_of, closed, function_of, ending_at, settled, with_saved, turn_at, turn}
+use Rattle.context.specs.Context.{Maps, Given, Context, Step, on, goes, refuses, ◌▸◌, going_to, with_progress, counting, moving, pools_to}
+use Rattle.context.specs.Turn.{arm_size, Turned, context_at, walk_of, closed, function_of, bytes_to_end, settled, with_saved, turn_at, turn}
 use Rattle.predicates.specs.declared.Previous.{Previous}
 use Rattle.predicates.specs.Predicates.{is_return, as_previous}
 use Rattle.rows.specs.Map.{stands-in}
@@ -46,8 +46,7 @@ module _ (g : Given) (c d : List ℕ) (longer : length c ≤ length d) (a : ℕ)
       let four = then-alike (pool_load i) three (pool-load g c d a i longer) in
       let five = then-alike (inline_table i) four (inline-table g c d a i) in
       let six = then-alike (function_call i word) five (function-call g c d a i word) in
-      let seven = then-alike (check_defined i returns) six (check-defined g c d a i returns) in
-      then-alike goes seven (λ y u r. both_go y u)
+      then-alike (check_defined i returns) six (check-defined g c d a i returns)
 
   abbrev after_return : Context → Step
   after_return x = from_return i word size (in_conditional_block x) (is_return x.progress.address i x.progress.previous) x
@@ -104,18 +103,18 @@ module _ (g : Given) (c d : List ℕ) (longer : length c ≤ length d) (a : ℕ)
         step true e = both_go (going_to (x.progress.address + 4) x) t
         step false e = past-pool e
 
-  passed-alike : {s t : Step} → Alike g c d a s t → Alike g c d a (passed i s) (passed i t)
-  passed-alike (both-on x t s) = both_go (with_progress (moving x.next (as_previous i) x.progress) x) t
-  passed-alike (both_go x t) = both_go (with_progress (moving x.next (as_previous i) x.progress) x) t
-  passed-alike (both_end end x t) = both_end end x t
-  passed-alike (both-refuse n r) = both-refuse n r
-  passed-alike (first-lacks h) = first-lacks h
+  passed-alike : (bytes : ℕ) {s t : Step} → Alike g c d a s t → Alike g c d a (passed i bytes s) (passed i bytes t)
+  passed-alike bytes (both-on x t s) = both_go (with_progress (moving x.next (as_previous i) (counting bytes x.progress)) x) t
+  passed-alike bytes (both_go x t) = both_go (with_progress (moving x.next (as_previous i) x.progress) x) t
+  passed-alike bytes (both_end end x t) = both_end end x t
+  passed-alike bytes (both-refuse n r) = both-refuse n r
+  passed-alike bytes (first-lacks h) = first-lacks h
 
   pub handle-ins : (x : Context) (t : Twins g c d a) → Stays g c d a x
       → SameBehind c d g.options.base a size i (pools_to t.pools x.maps)
       → Alike g c d a (handle_ins i word size (first g c d a t x)) (handle_ins i word size (second g c d a t x))
   unfolding handle_ins
-  handle-ins x t s behind = passed-alike (inner-alike (going_to (x.progress.address + size) x) t s behind)
+  handle-ins x t s behind = passed-alike (x.progress.instruction_bytes + size) (inner-alike (going_to (x.progress.address + size) x) t s behind)
 
 -- ---- a turn
 
@@ -162,13 +161,17 @@ module _ (g : Given) (c d : List ℕ) (a : ℕ) where
   closed-alike (Refused n at r) x t =
       same (record { pools = []; values = t.other_values; walk = refl; maps = refl; paired = no-pools })
 
+  -- the walk at an end, by its answer and where it stood before
+  abbrev ending : ℕ → Answer → Context → Context → Context
+  ending end answer x y = with_progress (counting (bytes_to_end answer end x.progress) (moving end y.progress.previous y.progress)) y
+
   settled-alike : (x : Context) (t : Twins g c d a) {s s' : Step} → Alike g c d a s s'
       → AlikeTurn c d g.options.base (settled (first g c d a t x) s) (settled (second g c d a t x) s')
   settled-alike x t (both-on y u s) = walk-alike Going y u
   settled-alike x t (both_go y u) = walk-alike Going y u
   settled-alike x t (both_end end y u) =
       rw (paired-first c d g.options.base u.paired)
-      (closed-alike (function_of end (first g c d a u y)) (ending_at end y) u)
+      (closed-alike (function_of end (first g c d a u y)) (ending end (function_of end (first g c d a u y)) x y) u)
   settled-alike x t (both-refuse n r) = closed-alike (Refused n x.progress.address r) x t
   settled-alike x t (first-lacks h) = lacks x.progress.address h refl
 

@@ -1,2 +1,3 @@
--- The runs of the walk, and what their theorem says.
+-- The runs of the walk, and what their theorems say.
 pub mod Runs
+pub mod Sums

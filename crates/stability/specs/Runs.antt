@@ -70,10 +70,11 @@ pub record Valued (code : List ℕ) (base n : ℕ) (pools : List ℕ) : Type 0 w
   pub words : (i : ℕ) → i < n → word_from code base (address_at pools i) ≡ Some (value_at pools i)
   pub zeros : (i : ℕ) → n * pool_row ≤ i → get_or pools i 0 ≡ 0
 
--- equal answers, counts and entries, but that a pool's value is the word in that run's own code
+-- equal answers, counts, sums of instruction bytes and entries, but that a pool's value is the word in that run's own code
 pub record Same (c d : List ℕ) (base : ℕ) (x y : After) : Type 0 where
   pub answers : x.answer ≡ y.answer
   pub counts : x.walk.counts ≡ y.walk.counts
+  pub bytes : x.walk.progress.instruction_bytes ≡ y.walk.progress.instruction_bytes
   pub labels : x.lists.labels ≡ y.lists.labels
   pub pools : SamePools x.walk.counts.pools x.lists.pools y.lists.pools
   pub jump_tables : x.lists.jump_tables ≡ y.lists.jump_tables

@@ -14,7 +14,8 @@ use Rattle.context.specs.Turn.{Turned, arm_size, context_at, with_saved, step_of
 use Rattle.invariants.specs.Turns.{turns_from}
 use Rattle.invariants.proofs.BlockLaws.{ended}
 use Rattle.invariants.proofs.EndingLaws.{ended-stays}
-use Rattle.invariants.proofs.KeptLaws.{none-fits, sound-fits, sound-kept, start-kept, passed-sound, written_held, written-places}
+use Rattle.invariants.proofs.BytesLaws.{turn-start}
+use Rattle.invariants.proofs.KeptLaws.{none-fits, sound-fits, sound-kept, passed-sound, written_held, written-places}
 use Rattle.invariants.proofs.SoundLaws.{AllFit, Sound, step_same}
 use Rattle.invariants.proofs.TurnLaws.{turn-counts, closed-result}
 use Rattle.invariants.proofs.CheckLaws.{number_passed}
@@ -82,7 +83,7 @@ module _ (g : Given) (w : Walk) (m : Maps) where
   settled-first word (goes x) e = tt
   settled-first word (ends end x) e =
       let same = ended end x (step_same (decode_of word here) word arm_size (with_saved (decode_of word here) before)) e in
-      rw (closed-result (function_of end x) (ending_at end x), ← same.1)
+      rw (closed-result (function_of end x) (ending_at before end x), ← same.1)
       (into-first x.given.options x.progress.start end x.progress.last_pool_address (key_or0 (first_key x.maps.pools)) x.progress.saved_registers)
   settled-first word (refuses n k) e = tt
 
@@ -123,7 +124,7 @@ module _ (g : Given) (n : ℕ) (t : Turned) (sound : Sound (context_at g t.walk 
       → Left g next.walk.progress.start (turns_from g n next))
       → Left g t.walk.progress.start (turns_from g n next)
   next-on f more =
-      subst (λ (a : ℕ). Left g a (turns_from g n next)) (start-kept g t.walk t.maps f) (more (sound-kept g t.walk t.maps sound f) next-fits next-counts f)
+      subst (λ (a : ℕ). Left g a (turns_from g n next)) (turn-start g t.walk t.maps) (more (sound-kept g t.walk t.maps sound f) next-fits next-counts f)
 
   next-left : (Sound (context_at g next.walk next.maps) → AllFit g.places next.maps → next.walk.counts ≡ counts_of next.maps → is_going next.walk.result ≡ true
       → Left g next.walk.progress.start (turns_from g n next))

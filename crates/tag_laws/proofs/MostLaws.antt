@@ -12,7 +12,7 @@ use Rattle.context.specs.Turn.{Turned, arm_size, context_at, function_of, ending
 use Rattle.invariants.specs.Turns.{turns_from}
 use Rattle.invariants.proofs.BlockLaws.{ended}
 use Rattle.invariants.proofs.EndingLaws.{ended-stays}
-use Rattle.invariants.proofs.KeptLaws.{start-kept}
+use Rattle.invariants.proofs.BytesLaws.{turn-start}
 use Rattle.invariants.proofs.SoundLaws.{step_same}
 use Rattle.invariants.proofs.TurnLaws.{closed-result}
 use Rattle.stability.proofs.LeadLaws.{no_record}
@@ -88,7 +88,7 @@ module _ (g : Given) (w : Walk) (m : Maps) (r : Record) where
       let same = ended end x (step_same i word arm_size (with_saved i before)) e in
       rw (← same.0, ← same.1)
       (record-holds x.given.options x.progress.start end x.progress.last_pool_address _ x.progress.saved_registers r
-      (sym (closed-result (function_of end x) (ending_at end x)) ∙ f))
+      (sym (closed-result (function_of end x) (ending_at before end x)) ∙ f))
   settled-holds word (refuses n k) e f = absurd (no_record f tt)
 
   turn-holds : (turn g w m).walk.result ≡ Accepted r → Holds g.options.known_end w.progress.start r
@@ -112,7 +112,7 @@ module _ (g : Given) (r : Record) where
       go : (b : Bool) → is_going next.walk.result ≡ b
           → (is_going next.walk.result ≡ true → (turns_from g n next).walk.result ≡ Accepted r → Holds g.options.known_end next.walk.progress.start r)
           → (turns_from g n next).walk.result ≡ Accepted r → Holds g.options.known_end t.walk.progress.start r
-      go true f more h = rw (start-kept g t.walk t.maps f) at (more f h)
+      go true f more h = rw (turn-start g t.walk t.maps) at (more f h)
       go false f more h = turn-holds g t.walk t.maps r (rw (ended-stays g n next f) at h)
 
 pub at_most-100 : AtMost100

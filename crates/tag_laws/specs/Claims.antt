@@ -2,11 +2,11 @@
 -- Assumes nothing.
 use Rattle.std.specs.Prelude.{◌≡◌, None, List, ℕ, ◌+◌, ◌*◌, ◌-◌, ◌≤◌, ◌<◌, length}
 use Rattle.context.specs.Lists.{Lists}
+use Rattle.invariants.specs.Bytes.{bytes_of}
 use Rattle.stability.specs.Runs.{Action, Answers, Agree, SameLengths}
 use Rattle.stability.specs.Runs as runs
 use Rattle.tag.specs.declared.Tag.{Tag}
 use Rattle.tag.specs.declared.Tag.TheVariants.{Percent}
-use Rattle.tag.specs.Bytes.{bytes_of}
 use Rattle.tag.specs.Tag.{tag_of, tag_by}
 use Rattle.walk.specs.declared.Answer.TheVariants.{Accepted}
 use Rattle.walk.specs.declared.Counts.{Counts}

@@ -6,13 +6,13 @@ use Rattle.base.specs.declared.refusal.Refusal.TheVariants.{BadRequest}
 use Rattle.context.specs.Lists.{Lists}
 use Rattle.context.specs.Turn.{no_maps, counts_of}
 use Rattle.finder.specs.Finder.{found_by, found}
+use Rattle.invariants.specs.Bytes.{bytes_of}
 use Rattle.listing.specs.Lines.{newline}
 use Rattle.listing.specs.Listing.{refusal_line}
 use Rattle.request.specs.declared.Request.{Request}
 use Rattle.request.specs.Request.{code_of, parsed}
 use Rattle.tag.specs.declared.Tag.{Tag}
 use Rattle.tag.specs.declared.Tag.TheVariants.{Percent, Refused}
-use Rattle.tag.specs.Bytes.{bytes_of}
 use Rattle.tag.specs.Tag.{tag_by}
 use Rattle.text.specs.Decimal.{decimal}
 use Rattle.words.specs.Answer.{Answered}

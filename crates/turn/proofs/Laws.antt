@@ -14,10 +14,10 @@ use Rattle.context.specs.declared.Module.{Module}
 use Rattle.context.specs.declared.Then.{Then}
 use Rattle.context.specs.declared.Then.TheVariants.{On, Goes, Ends, Refuses}
 use Rattle.context.specs.Blocks.{handle_ins}
-use Rattle.context.specs.Context.{Given, Maps, call_row, label_row, pool_row, table_row, saving, moving}
+use Rattle.context.specs.Context.{Given, Maps, call_row, label_row, pool_row, table_row, saving, counting, moving}
 use Rattle.context.specs.Lists.{Lists, AllHeld, maps_in, written, zeroed, given_to}
 use Rattle.context.specs.State.{read, progressed}
-use Rattle.context.specs.Turn.{Turned, turn, context_at, saved_first, settled, closed, counts_of, no_maps, key_or0, arm_size}
+use Rattle.context.specs.Turn.{Turned, turn, context_at, saved_first, settled, closed, counts_of, no_maps, key_or0, bytes_to_end, arm_size}
 use Rattle.registers.specs.declared.Registers.{Registers}
 use Rattle.rows.specs.Map.{map_in, encode, Held, first_key}
 use Rattle.rows.proofs.MapLaws.{map-length, zeros-held}
@@ -26,8 +26,7 @@ use Rattle.walk.specs.declared.Answer.TheVariants.{Going, Accepted, Refused}
 use Rattle.walk.specs.declared.Counts.{Counts}
 use Rattle.walk.specs.declared.Options.{Options}
 use Rattle.walk.specs.declared.Walk.{Walk}
-use Rattle.walk.specs.IntoFunction.{into_function}
-use Rattle.outcome.specs.Outcome.{state_of, walk_in, with_counts, refused_walk, settles, is_refused}
+use Rattle.outcome.specs.Outcome.{state_of, walk_in, with_counts, refused_walk, record_at, settles, is_refused}
 use Rattle.lists.proofs.Laws.{same_lists, zeros-encode}
 use Rattle.handle_ins.specs.Handles.{context_in, Handles}
 use Rattle.turn.specs.Turning.{left, Looks, Turns}
@@ -45,8 +44,8 @@ module _ (g : Given) (w : Walk) (m : Maps) (l : Lists) where
   settles-left On h s = closes Going h s
   settles-left Goes h s = closes Going h s
   settles-left (Ends end) h s =
-      closes (into_function g.options s.progress.start end s.progress.last_pool_address (key_or0 (first_key (map_in pool_row s.counts.pools l.pools))) s.progress.saved_registers)
-      h (progressed (moving end s.progress.previous s.progress) s)
+      let answer = record_at g.options (key_or0 (first_key (map_in pool_row s.counts.pools l.pools))) end s.progress in
+      closes answer h (progressed (counting (bytes_to_end answer end w.progress) (moving end s.progress.previous s.progress)) s)
   settles-left (Refuses n r) h s = refl
 
 settles-counts : (o : Options) (w : Walk) (pool : ℕ) (t : Then) (h : Registers) (s : State) → (settles o w pool t h s).counts ≡ s.counts

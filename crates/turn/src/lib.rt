@@ -1,6 +1,7 @@
 // One turn of the walk's loop over the five lists: the word at the walk's address, handle_ins, and what that comes to.
 #![tactic(auto)]
 
+ghost use Rattle.std.specs.Prelude.{◌+◌, ◌≤◌};
 ghost use Rattle.context.specs.Lists.{AllHeld, Sound, maps_in, given_to};
 ghost use Rattle.context.specs.Turn.{turn};
 ghost use Rattle.lists.specs.Lists.{lists_of, IsSame};
@@ -21,7 +22,7 @@ const ARM_SIZE: u32 = 4;
 // The walk after the word at its address, with the entries that the step left.
 #[inline(always)]
 fn look<C: CallList>(m: Module, w: Walk, lists: &mut Lists<C>) -> Walk
-    requires { Sound m × AllHeld w.counts (lists_of C.numbers lists.old) }
+    requires { Sound m × AllHeld w.counts (lists_of C.numbers lists.old) × (w.progress.start + w.progress.instruction_bytes ≤ w.progress.address) }
     ensures same { IsSame C.is_same lists.old lists.new }
     ensures looks { Looks result (lists_of C.numbers lists.old) (lists_of C.numbers lists.new) (turn (given_to m.entry (lists_of C.numbers lists.old)) w (maps_in w.counts (lists_of C.numbers lists.old))) }
 {
@@ -45,7 +46,7 @@ fn look<C: CallList>(m: Module, w: Walk, lists: &mut Lists<C>) -> Walk
 // One turn. A refusal that ends the walk leaves no entries.
 #[inline(always)]
 pub fn turn<C: CallList>(m: Module, w: Walk, lists: &mut Lists<C>) -> Walk
-    requires { Sound m × AllHeld w.counts (lists_of C.numbers lists.old) }
+    requires { Sound m × AllHeld w.counts (lists_of C.numbers lists.old) × (w.progress.start + w.progress.instruction_bytes ≤ w.progress.address) }
     ensures same { IsSame C.is_same lists.old lists.new }
     ensures turns { Turns result (lists_of C.numbers lists.old) (lists_of C.numbers lists.new) (turn (given_to m.entry (lists_of C.numbers lists.old)) w (maps_in w.counts (lists_of C.numbers lists.old))) }
 {

@@ -14,7 +14,7 @@ use Rattle.lists.specs.Lists.{are_in_order}
 use Rattle.rows.specs.Map.{key_of, stands-in, last_key, Held, in_order}
 use Rattle.rows.proofs.MapLaws.{in-order-held}
 use Rattle.base.proofs.ChoiceLaws.{both_true}
-use Rattle.validity.specs.Validity.{low, high, is_window, is_in_code, are_starts, is_whole, are_whole, are_held, are_pools, are_lists, step_check}
+use Rattle.validity.specs.Validity.{low, high, is_window, is_in_code, are_starts, is_whole, are_whole, are_held, are_pools, are_bytes, are_lists, step_check}
 use Rattle.walk.specs.declared.Counts.{Counts}
 use Rattle.walk.specs.declared.Options.{Options}
 use Rattle.walk.specs.declared.Walk.{Walk}
@@ -67,6 +67,7 @@ pub record Passed (o : Options) (code starts : List ℕ) (w : Walk) (l : Lists) 
   pub above : o.base ≤ w.progress.address
   pub aligned : w.progress.start % 4 ≡ 0
   pub ascends : Held 1 (length starts) starts
+  pub bytes : w.progress.start + w.progress.instruction_bytes ≤ w.progress.address
   pub lists : AllHeld w.counts l
   pub whole : are_whole o.base (length code) (maps_in w.counts l).pools ≡ true
   pub last : w.progress.last_pool_address ≡ key_or0 (last_key (maps_in w.counts l).pools)
@@ -79,7 +80,7 @@ passes false x r e = cc
 
 module _ (o : Options) (code starts : List ℕ) (w : Walk) (l : Lists) where
   pub number_passed : step_check o (length code) starts w l ≡ Ok tt → Passed o code starts w l
-  unfolding step_check are_lists are_pools are_starts
+  unfolding step_check are_bytes are_lists are_pools are_starts
   number_passed e =
       let a = passes (is_window o (length code)) _ BadWindow e in
       let b = passes _ _ BadStart a.1 in
@@ -87,7 +88,8 @@ module _ (o : Options) (code starts : List ℕ) (w : Walk) (l : Lists) where
       let d = passes _ (Ok tt) BadLists c.1 in
       let f = both_true (is_in_code o.base (length code) w.progress.start) _ b.0 in
       let g = both_true (are_starts starts) _ d.0 in
-      let h = both_true (are_in_order w.counts l) _ g.1 in
+      let k = both_true (leb (w.progress.start + w.progress.instruction_bytes) w.progress.address) _ g.1 in
+      let h = both_true (are_in_order w.counts l) _ k.1 in
       let i = both_true (are_whole o.base (length code) (maps_in w.counts l).pools) _ h.1 in
       let j = both_true (eqb w.progress.last_pool_address (key_or0 (last_key (maps_in w.counts l).pools))) _ i.1 in
       record {
@@ -96,6 +98,7 @@ module _ (o : Options) (code starts : List ℕ) (w : Walk) (l : Lists) where
         above = leb-true o.base w.progress.address f.1;
         aligned = eqb-true (w.progress.start % 4) 0 c.0;
         ascends = in-order-held (omega arith) g.0;
+        bytes = leb-true _ _ k.0;
         lists = order-held w.counts l h.0;
         whole = i.0;
         last = eqb-true _ _ j.0;

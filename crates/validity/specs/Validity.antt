@@ -9,6 +9,7 @@ use Rattle.context.specs.Turn.{key_or0}
 use Rattle.lists.specs.Lists.{are_in_order}
 use Rattle.rows.specs.Map.{key_of, stands-in, last_key, in_order}
 use Rattle.walk.specs.declared.Options.{Options}
+use Rattle.walk.specs.declared.Progress.{Progress}
 use Rattle.walk.specs.declared.Walk.{Walk}
 
 -- the addresses of a program
@@ -58,7 +59,11 @@ unfoldable pub are_pools : ℕ → ℕ → ℕ → List ℕ → List (List ℕ) 
 are_pools base length last_pool sources pools =
     both (are_whole base length pools) (both (eqb last_pool (key_or0 (last_key pools))) (are_held sources pools))
 
--- all that 4 asks at a step beside the starts
+-- the instruction bytes lie between the requested start and the walk's address
+unfoldable pub are_bytes : Progress → Bool
+are_bytes p = leb (p.start + p.instruction_bytes) p.address
+
+-- all that 4 asks of the lists at a step
 unfoldable pub are_lists : Options → ℕ → Walk → Lists → Bool
 are_lists o length w l =
     both (are_in_order w.counts l)
@@ -70,5 +75,5 @@ step_check o length starts w l =
     pick (is_window o length)
     (pick (both (is_in_code o.base length w.progress.start) (leb o.base w.progress.address))
     (pick (eqb (w.progress.start % 4) 0)
-    (pick (both (are_starts starts) (are_lists o length w l)) (Ok tt) (Err BadLists))
+    (pick (both (are_starts starts) (both (are_bytes w.progress) (are_lists o length w l))) (Ok tt) (Err BadLists))
     (Err UnalignedStart)) (Err BadStart)) (Err BadWindow)

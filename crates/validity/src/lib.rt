@@ -5,13 +5,13 @@ ghost use Rattle.std.specs.Prelude.{◌≡◌, length};
 ghost use Rattle.context.specs.Turn.{key_or0};
 ghost use Rattle.lists.specs.Lists.{lists_of};
 ghost use Rattle.rows.specs.Map.{last_key};
-ghost use Rattle.validity.specs.Validity.{is_window, is_in_code, are_starts, begin_check, is_whole, are_whole, are_held, are_pools, are_lists, step_check};
+ghost use Rattle.validity.specs.Validity.{is_window, is_in_code, are_starts, begin_check, is_whole, are_whole, are_held, are_pools, are_bytes, are_lists, step_check};
 
 use base::refusal::Refusal;
 use calls::CallList;
 use context::{Pools, Starts};
 use lists::Lists;
-use walk::{Options, Walk};
+use walk::{Options, Progress, Walk};
 
 // The addresses of a program.
 const LOW: u32 = 0x01FF_8000;
@@ -105,6 +105,13 @@ fn are_pools(
         && are_held(sources, pools)
 }
 
+#[tactic(auto, using(std::proofs::lemmas::Bool::Decides::nat_tests), unfolding(crate::specs::Validity::are_bytes))]
+fn are_bytes(p: Progress) -> bool
+    ensures { result ≡ are_bytes p }
+{
+    p.start as u64 + p.instruction_bytes as u64 <= p.address as u64
+}
+
 #[tactic(auto, unfolding(crate::specs::Validity::are_lists))]
 fn are_lists<C: CallList>(o: Options, length: usize, w: Walk, lists: &Lists<C>) -> bool
     ensures { result ≡ are_lists o length w (lists_of C.numbers lists.now) }
@@ -142,7 +149,7 @@ pub fn step<C: CallList>(
     if p.start % 4 != 0 {
         return Err(Refusal::UnalignedStart);
     }
-    if !are_starts(starts) || !are_lists(o, length, w, lists) {
+    if !are_starts(starts) || !are_bytes(p) || !are_lists(o, length, w, lists) {
         return Err(Refusal::BadLists);
     }
     Ok(())

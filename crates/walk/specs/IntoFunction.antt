@@ -24,6 +24,7 @@ begun start n = record {
     jump_table_end_address = 0;
     defined_registers = 0b1111_1100_0000_1111;
     saved_registers = 0;
+    instruction_bytes = 0;
     previous = record { is_branch = false; is_conditional = false; is_adds_four = false };
   };
   machines = record { jump_table = CmpReg; function_branch = F-Start; inline_table = T-Start; illegal_code = I-Start };

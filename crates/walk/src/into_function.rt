@@ -27,6 +27,7 @@ pub fn new(start: u32, counts: Counts) -> Walk
             jump_table_end_address: 0,
             defined_registers: DEFINED,
             saved_registers: 0,
+            instruction_bytes: 0,
             previous: Previous::default(),
         },
         machines: Machines {

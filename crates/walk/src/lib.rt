@@ -25,7 +25,7 @@ pub struct Options {
     pub check: bool,
 }
 
-// How far a walk has come. `saved_registers` is what its first instruction saves.
+// How far a walk has come. `saved_registers` is what its first instruction saves; `instruction_bytes` is the sum of its instructions' sizes.
 #[derive(Clone, Copy)]
 pub struct Progress {
     pub start: u32,
@@ -35,6 +35,7 @@ pub struct Progress {
     pub jump_table_end_address: u32,
     pub defined_registers: u16,
     pub saved_registers: u32,
+    pub instruction_bytes: u32,
     pub previous: Previous,
 }
 

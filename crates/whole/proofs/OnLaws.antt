@@ -1,11 +1,12 @@
 -- A walk on the way to its result, turn by turn: what the loop keeps.
 -- Assumes nothing.
-use Rattle.base.proofs.Prelude.{◌∙◌, sym, refl, ◌≡◌, ap, true, false, Bool, List, ◌≤◌, ℕ, ◌<◌, ◌-◌, suc, ◌^◌, arith, length}
+use Rattle.base.proofs.Prelude.{◌∙◌, sym, refl, ◌≡◌, ap, subst⁻¹, true, false, Bool, List, ◌≤◌, ℕ, ◌+◌, ◌<◌, ◌-◌, suc, ◌^◌, arith, length}
 use Rattle.base.specs.Choice.{pick}
 use Rattle.context.specs.Context.{Given}
 use Rattle.context.specs.Lists.{Lists, AllHeld, maps_in, places_of, given_by}
 use Rattle.context.specs.Turn.{Turned, turn}
 use Rattle.invariants.specs.Turns.{turns_from}
+use Rattle.invariants.proofs.BytesLaws.{turn-within}
 use Rattle.invariants.proofs.EndingLaws.{one_more, stays, going-within}
 use Rattle.invariants.proofs.StepLaws.{same-given}
 use Rattle.invariants.proofs.TurnLaws.{turn-past}
@@ -34,17 +35,21 @@ module _ (o : Options) (code starts : List ℕ) (w : Walk) (l : Lists) where
   abbrev after : ℕ → Turned
   after n = turns_from given n (held w l)
 
+  abbrev Below : Walk → Type 0
+  Below here = here.progress.start + here.progress.instruction_bytes ≤ here.progress.address
+
   -- so many have led here
   pub record On (here : Walk) (k : Lists) : Type 0 where
     pub turns : ℕ
     pub few : turns ≤ suc (length code)
     pub is : held here k ≡ after turns
     pub holds : AllHeld here.counts k
+    pub within : here.progress.start + here.progress.instruction_bytes ≤ here.progress.address
     pub places : places_of k ≡ places_of l
 
-  pub on-start : AllHeld w.counts l → On w l
+  pub on-start : AllHeld w.counts l → w.progress.start + w.progress.instruction_bytes ≤ w.progress.address → On w l
   unfolding turns_from
-  on-start h = record { turns = 0; few = omega arith; is = refl; holds = h; places = refl }
+  on-start h b = record { turns = 0; few = omega arith; is = refl; holds = h; within = b; places = refl }
 
   module _ (here : Walk) (k : Lists) (on : On here k) where
     pub on-end : is_going here.result ≡ false → Turns here l k (turns_from given (suc (length code)) (held w l))
@@ -73,6 +78,7 @@ module _ (o : Options) (code starts : List ℕ) (w : Walk) (l : Lists) where
                 one ∙ taken ∙ ap (λ (t : Turned). turn given t.walk t.maps) on.is
                 ∙ sym (one_more given on.turns (held w l) still);
             holds = next.held;
+            within = subst⁻¹ Below (next.walks ∙ ap (λ (t : Turned). t.walk) taken) (turn-within given here (maps_in here.counts k) on.within);
             places = next.places ∙ on.places;
           }
 

@@ -1,6 +1,6 @@
 -- The whole walk by its turns: one more than the code has bytes, from no entries.
 -- Assumes nothing.
-use Rattle.base.proofs.Prelude.{◌∙◌, sym, refl, ◌≡◌, ap, subst⁻¹, true, false, List, ℕ, suc, arith, length}
+use Rattle.base.proofs.Prelude.{◌∙◌, sym, refl, ◌≡◌, ap, subst⁻¹, true, false, List, ℕ, ◌+◌, ◌≤◌, suc, arith, length}
 use Rattle.std.specs.Prelude.{Result, Ok, Err}
 use Rattle.base.specs.declared.refusal.Refusal.{Refusal}
 use Rattle.context.specs.declared.Module.{Module}
@@ -118,7 +118,7 @@ module _ (given : Module) (start : ℕ) (n : Counts) (l : Lists) (b : Answered) 
       holds = opens.holds ∙ ap (λ (x : After). x.lists) begins
 
       -- what a turn asks for
-      pub run-may : Sound given × AllHeld b.walk.counts m
+      pub run-may : Sound given × AllHeld b.walk.counts m × (b.walk.progress.start + b.walk.progress.instruction_bytes ≤ b.walk.progress.address)
       run-may = rw (walks, holds) (turn-may given (begun start (counts_of no_maps)) (zeroed l) (fresh-number o start code starts n l on))
 
       pub run_on : (w : Walk) (k : Lists) → Turns w m k (turns_from (given_to given m) (suc (length code)) (held b.walk m))

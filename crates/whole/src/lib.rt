@@ -2,7 +2,7 @@
 // made once.
 #![tactic(auto)]
 
-ghost use Rattle.std.specs.Prelude.{suc, length};
+ghost use Rattle.std.specs.Prelude.{suc, ◌+◌, ◌≤◌, length};
 ghost use Rattle.context.specs.Lists.{AllHeld, Sound, maps_in, given_to};
 ghost use Rattle.invariants.specs.Turns.{turns_from};
 ghost use Rattle.lists.specs.Lists.{lists_of, IsSame};
@@ -19,7 +19,7 @@ use walk::{Counts, Walk};
 
 // On until the walk has a result: a `while`, since how many turns that takes is known by the walk alone.
 fn walk_on<C: CallList>(m: Module, w: Walk, lists: &mut Lists<C>) -> Walk
-    requires { Sound m × AllHeld w.counts (lists_of C.numbers lists.old) }
+    requires { Sound m × AllHeld w.counts (lists_of C.numbers lists.old) × (w.progress.start + w.progress.instruction_bytes ≤ w.progress.address) }
     ensures same { IsSame C.is_same lists.old lists.new }
     ensures turns { Turns result (lists_of C.numbers lists.old) (lists_of C.numbers lists.new) (turns_from (given_to m.entry (lists_of C.numbers lists.old)) (suc (length m.entry.code.now)) (record { walk = w; maps = maps_in w.counts (lists_of C.numbers lists.old) })) }
 {

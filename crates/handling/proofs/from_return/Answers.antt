@@ -1,6 +1,5 @@
 -- `handling::from_return` meets its contract.
 use Rattle.base.proofs.Prelude.{[], ◌∷◌, refl}
-use Rattle.context.specs.Context.{goes}
 use Rattle.context.specs.Blocks.{pool_load, inline_table, function_call, check_defined, from_return}
 use Rattle.context.specs.State.{starts_in, labels_in, inline_tables_in}
 use Rattle.handling.specs.Handling.{to_load, from_load}
@@ -14,7 +13,7 @@ pub returns-then-not-is_on : goal.returns-then-not-is_on
 unfolding from_return
 returns-then-not-is_on c =
     let ins = c.args.parsed.ins in
-    let fs = pool_load ins ∷ inline_table ins ∷ function_call ins c.args.parsed.word ∷ check_defined ins c.args.returns ∷ goes ∷ [] in
+    let fs = pool_load ins ∷ inline_table ins ∷ function_call ins c.args.parsed.word ∷ check_defined ins c.args.returns ∷ [] in
     λ l told h. stop-all fs (stopped c.is_on.ensures c.if-not-is_on.true) (c.to_load-branched.ensures (inline_tables_in c.args.inline_tables.now l) told h)
 
 pub pool_load-loaded-requires : goal.pool_load-loaded-requires
@@ -27,7 +26,7 @@ pub returns-then-not-is_on-2 : goal.returns-then-not-is_on-2
 unfolding from_return
 returns-then-not-is_on-2 c =
     let ins = c.args.parsed.ins in
-    let fs = inline_table ins ∷ function_call ins c.args.parsed.word ∷ check_defined ins c.args.returns ∷ goes ∷ [] in
+    let fs = inline_table ins ∷ function_call ins c.args.parsed.word ∷ check_defined ins c.args.returns ∷ [] in
     λ l told h. stop-all fs (stopped c.is_on-2.ensures c.if-not-is_on-2.true)
     (then_may (pool_load ins) (went_on c.is_on.ensures c.if-not-is_on.false) (c.to_load-branched.ensures (inline_tables_in c.args.inline_tables.now l) told h) refl
     c.pool_load-loaded.ensures)
@@ -44,7 +43,7 @@ pub returns : goal.returns
 unfolding from_return
 returns c =
     let ins = c.args.parsed.ins in
-    let fs = function_call ins c.args.parsed.word ∷ check_defined ins c.args.returns ∷ goes ∷ [] in
+    let fs = function_call ins c.args.parsed.word ∷ check_defined ins c.args.returns ∷ [] in
     let last = from_load ins c.args.parsed.word c.args.returns in
     λ l told h.
     let branched = c.to_load-branched.ensures (inline_tables_in c.args.inline_tables.now l) told h in

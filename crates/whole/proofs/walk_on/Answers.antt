@@ -6,10 +6,10 @@ use Rattle.whole.proofs.OnLaws.{on-start, on-more, on-less, on-end}
 use Rattle.whole.proofs.walk_on.Goals as goal
 
 pub loop-m-init : goal.loop-m-init
-loop-m-init g c = (same_start g.met.C.CallList.unmoved c.args.lists.now, on-start _ _ _ _ _ c.requires.1)
+loop-m-init g c = (same_start g.met.C.CallList.unmoved c.args.lists.now, on-start _ _ _ _ _ c.requires.1 c.requires.2)
 
 pub turn-here-requires : goal.turn-here-requires
-turn-here-requires g c = (c.requires.0, c.loop-m.invariant.1.holds)
+turn-here-requires g c = (c.requires.0, c.loop-m.invariant.1.holds, c.loop-m.invariant.1.within)
 
 pub loop-m-smaller : goal.loop-m-smaller
 loop-m-smaller g c =

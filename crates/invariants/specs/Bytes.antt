@@ -6,10 +6,10 @@ use Rattle.std.proofs.Math.Option.{Option, none, some}
 use Rattle.base.specs.Choice.{pick, either}
 use Rattle.rows.specs.Map.{stands-in}
 use Rattle.context.specs.Blocks.{inline_table_at}
-use Rattle.context.specs.Context.{Maps, Given}
+use Rattle.context.specs.Context.{Maps}
 use Rattle.context.specs.Lists.{Lists, maps_in}
-use Rattle.context.specs.Turn.{Turned, turn, arm_size}
-use Rattle.stepper.specs.Stepper.{is_going, begin, step}
+use Rattle.context.specs.Turn.{arm_size}
+use Rattle.stepper.specs.Stepper.{begin, step}
 use Rattle.walk.specs.declared.Answer.{Answer}
 use Rattle.walk.specs.declared.Answer.TheVariants.{Going, Accepted, Refused}
 use Rattle.walk.specs.declared.Counts.{Counts}
@@ -52,12 +52,3 @@ module _ (o : Options) (code starts : List ℕ) where
   abbrev pub bytes_of : ℕ → Counts → Lists → ℕ
   bytes_of start n l =
       bytes_from (suc (length code)) (begin o start code starts n l).walk (begin o start code starts n l).lists
-
--- the same of turns, with no checks between them
-module _ (g : Given) where
-  abbrev pub turn_bytes : Turned → ℕ
-  turn_bytes t = bytes_to t.walk.progress.address t.maps (turn g t.walk t.maps).walk
-
-  unfoldable pub turns_bytes : ℕ → Turned → ℕ
-  turns_bytes zero t = 0
-  turns_bytes (suc n) t = pick (is_going t.walk.result) (turn_bytes t + turns_bytes n (turn g t.walk t.maps)) 0
