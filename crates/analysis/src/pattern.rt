@@ -14,7 +14,7 @@ pub const LR: u8 = 14;
 
 pub const PC: u8 = 15;
 
-#[tactic(auto, using(classes::proofs::Numbers::same_class, classes::proofs::Conds::same_cond))]
+#[tactic(auto, using(classes::proofs::Numbers::same_class))]
 pub fn is_when(ins: Ins, class: Class, cond: Cond) -> bool
     ensures { result ≡ is_when ins class cond }
 {
@@ -44,7 +44,7 @@ pub fn is_lsl(op: ShiftOp) -> bool
 pub fn is_scaled(op2: Op2, register: u8) -> bool
     ensures { result ≡ is_scaled op2 register }
 {
-    matches!(op2, Op2::ShiftImm { rm, shift_op: ShiftOp::Lsl, imm: 2 } if rm == register)
+    matches!(op2, Op2::ShiftImm { rm, shift_op, imm: 2 } if rm == register && is_lsl(shift_op))
 }
 
 pub fn is_pre(addr: AddrLdrStr, register: u8) -> bool

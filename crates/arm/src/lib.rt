@@ -34,12 +34,12 @@ pub struct Ins {
 }
 
 impl Ins {
-    // A condition other than 1110 and 1111.
+    // A condition below 1110: of a word's conditions any other than 1110 and 1111.
     #[tactic(auto, unfolding(classes::specs::Cond::cond_no))]
     pub fn is_conditional(self) -> bool
         ensures { result ≡ is_conditional self.cond }
     {
-        !matches!(self.cond, Cond::Al | Cond::Nv)
+        u8::from(self.cond) < u8::from(Cond::Al)
     }
 }
 

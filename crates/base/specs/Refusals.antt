@@ -3,7 +3,7 @@
 use Rattle.std.specs.Prelude.{ℕ}
 use Rattle.base.specs.declared.refusal.Refusal.{Refusal}
 use Rattle.base.specs.declared.refusal.Refusal.TheVariants.{BadWindow, BadStart, UnalignedStart, BadLists, IllegalOpcode, ShiftedBase, OffsetByItself, PcIntoPc, BranchOutside}
-use Rattle.base.specs.declared.refusal.Refusal.TheVariants.{PoolOutside, UndefinedRegister, Beyond32Bits, ListFull, NoEpilogue, NotDone, BadRequest, EmptyRecord, NoRoom}
+use Rattle.base.specs.declared.refusal.Refusal.TheVariants.{PoolOutside, UndefinedRegister, Beyond32Bits, ListFull, NoEpilogue, NotDone, BadRequest, EmptyRecord, NoRoom, Other}
 
 -- a refusal's number
 abbrev pub refusal_no : Refusal → ℕ
@@ -25,3 +25,4 @@ refusal_no NotDone = 15
 refusal_no BadRequest = 16
 refusal_no EmptyRecord = 17
 refusal_no NoRoom = 18
+refusal_no (Other number) = number

@@ -24,8 +24,8 @@ use Rattle.rows.proofs.OrderLaws.{rising-ascending}
 use Rattle.rows.proofs.RowLaws.{insert_at, inserted-is, insert_at-length, ascending-kept}
 use Rattle.rows.proofs.MapLaws.{held-in-order, in-order-held}
 use Rattle.calls.specs.declared.Call.{Call}
-use Rattle.calls.specs.Records.{row_of, numbers_of}
-use Rattle.calls.proofs.RecordLaws.{follows, none, is_none, numbers-length, first-rows, order_is, order-parts, held-room, held-rows, zeros-more}
+use Rattle.calls.specs.Records.{row_of, numbers_of, is_none, none}
+use Rattle.calls.proofs.RecordLaws.{follows, numbers-length, first-rows, order_is, order-parts, held-room, held-rows, zeros-more}
 
 abbrev key : Call → ℕ
 key c = c.address

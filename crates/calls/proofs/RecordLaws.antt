@@ -13,18 +13,7 @@ use Rattle.rows.specs.Order.{ascending, zeros}
 use Rattle.rows.specs.Map.{key_of, flat, map_in, in_order, Held}
 use Rattle.rows.proofs.MapLaws.{held-in-order, held-cleared}
 use Rattle.calls.specs.declared.Call.{Call}
-use Rattle.calls.specs.Records.{row_of, numbers_of}
-
--- the rows of the first so many
-abbrev pub rows_in : ℕ → List Call → List (List ℕ)
-rows_in count calls = map row_of (take count calls)
-
--- no call
-abbrev pub none : Call
-none = record { address = 0; word = 0; destination = 0; mode = 0 }
-
-abbrev pub is_none : Call → Bool
-is_none c = eqb c.address 0 && eqb c.word 0 && eqb c.destination 0 && eqb c.mode 0
+use Rattle.calls.specs.Records.{row_of, numbers_of, rows_in, is_none, none}
 
 pub numbers-length : (calls : List Call) → length (numbers_of calls) ≡ length calls * call_row
 unfolding flat
@@ -37,7 +26,7 @@ numbers-append [] ys = refl
 numbers-append (c ∷ cs) ys = ap (λ r. c.address ∷ c.word ∷ c.destination ∷ c.mode ∷ r) (numbers-append cs ys)
 
 -- the first rows, and the others
-pub first-rows : (n : ℕ) (calls : List Call) → n ≤ length calls → map_in call_row n (numbers_of calls) ≡ rows_in n calls
+pub first-rows : (n : ℕ) (calls : List Call) → n ≤ length calls → map_in call_row n (numbers_of calls) ≡ map row_of (take n calls)
 unfolding map_in flat
 first-rows zero calls h = refl
 first-rows (suc n) [] h = absurd (not-suc-le-zero h)
@@ -49,11 +38,21 @@ rows_behind zero calls = refl
 rows_behind (suc n) [] = drop-nil (suc n * call_row)
 rows_behind (suc n) (c ∷ cs) = let e : suc n * call_row ≡ suc (suc (suc (suc (n * call_row)))) = omega arith in rw e (rows_behind n cs)
 
+pub map-take : (n : ℕ) (calls : List Call) → map row_of (take n calls) ≡ rows_in n calls
+map-take zero cs = refl
+map-take (suc n) [] = refl
+map-take (suc n) (c ∷ cs) = ap (λ r. row_of c ∷ r) (map-take n cs)
+
+pub map-drop : (n : ℕ) (calls : List Call) → drop n (map row_of calls) ≡ map row_of (drop n calls)
+map-drop zero cs = refl
+map-drop (suc n) [] = refl
+map-drop (suc n) (c ∷ cs) = map-drop n cs
+
 -- ---- the test that the records hold a map
 
 -- the calls ascend, and zeros follow them
 abbrev pub follows : ℕ → List Call → Bool
-follows n calls = both (ascending (map key_of (rows_in n calls))) (zeros (numbers_of (drop n calls)))
+follows n calls = both (ascending (map key_of (map row_of (take n calls)))) (zeros (numbers_of (drop n calls)))
 
 pub order_is : (n : ℕ) (calls : List Call) → in_order call_row n (numbers_of calls) ≡ both (leb n (length calls)) (follows n calls)
 unfolding in_order
@@ -90,7 +89,7 @@ held-front {n} calls h = sym (length-take-le n calls (held-room calls h))
 -- what the code's ranges ask
 pub ruleset places = (held-room, held-front)
 
-pub held-rows : {n : ℕ} (calls : List Call) → Held call_row n (numbers_of calls) → map_in call_row n (numbers_of calls) ≡ rows_in n calls
+pub held-rows : {n : ℕ} (calls : List Call) → Held call_row n (numbers_of calls) → map_in call_row n (numbers_of calls) ≡ map row_of (take n calls)
 held-rows {n} calls h = first-rows n calls (held-room calls h)
 
 -- ---- no calls

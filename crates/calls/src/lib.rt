@@ -4,6 +4,7 @@
 
 mod numbers;
 mod records;
+mod told;
 
 ghost use Rattle.std.specs.Prelude.{◌≡◌, List, ℕ, length, replicate};
 ghost use Rattle.context.specs.Context.{call_row};
@@ -12,6 +13,7 @@ ghost use Rattle.rows.specs.Map.{map_in, in_order, Held, Entering};
 ghost use Rattle.calls.specs.Records.{row_of};
 
 use base::refusal::Refusal;
+pub use told::{Edit, Entry, Told, clear, enter, put, tell};
 
 // A record as a host lends it: four numbers, of which any may stand in it, the mode too.
 #[derive(Clone, Copy, PartialEq, Eq, Default)]

@@ -1,7 +1,7 @@
 // A list of calls as records: their numbers one after another are the rows.
 //
-// `enter` and `clear` are functions over the slice itself, which the methods call: through `self`, a borrow of a borrow, their proofs did not
-// close.
+// `enter_call` and `clear_calls` are functions over the slice itself, which the methods call: through `self`, a borrow of a borrow, their proofs
+// did not close.
 ghost use Rattle.std.specs.Prelude.{◌≡◌, refl, map, length, replicate};
 ghost use Rattle.base.proofs.Prelude.{◌∙◌};
 ghost use Rattle.context.specs.Context.{call_row};
@@ -28,7 +28,7 @@ fn are_zero(calls: &[Call]) -> bool
 
 // The address's place among the calls is found by halves. A new call moves the later ones up.
 #[tactic(auto, using(crate::proofs::RecordLaws::places))]
-fn enter(calls: &mut [Call], count: usize, call: Call) -> Result<usize, Refusal>
+fn enter_call(calls: &mut [Call], count: usize, call: Call) -> Result<usize, Refusal>
     requires { Held call_row count (numbers_of calls.old) }
     ensures { Entering call_row count (numbers_of calls.old) (row_of call) result (numbers_of calls.new) }
 {
@@ -49,7 +49,7 @@ fn enter(calls: &mut [Call], count: usize, call: Call) -> Result<usize, Refusal>
 }
 
 #[tactic(auto, using(crate::proofs::RecordLaws::places))]
-fn clear(calls: &mut [Call], count: usize)
+fn clear_calls(calls: &mut [Call], count: usize)
     requires { Held call_row count (numbers_of calls.old) }
     ensures { numbers_of calls.new ≡ replicate (length (numbers_of calls.old)) 0 }
 {
@@ -78,11 +78,11 @@ impl CallList for &mut [Call] {
     }
 
     fn enter(&mut self, count: usize, call: Call) -> Result<usize, Refusal> {
-        enter(self, count, call)
+        enter_call(self, count, call)
     }
 
     fn clear(&mut self, count: usize) {
-        clear(self, count);
+        clear_calls(self, count);
     }
 
     fn zero(&mut self) {

@@ -1,3 +1,2 @@
--- What the proofs about classes and conditions share.
-pub mod Conds
+-- What the proofs about classes share.
 pub mod Numbers

@@ -2,13 +2,13 @@
 -- Assumes nothing.
 use Rattle.std.specs.Prelude.{ℕ, Bool, List, [], ◌∷◌, eqb}
 use Rattle.classes.specs.declared.Cond.{Cond}
-use Rattle.classes.specs.declared.Cond.TheVariants.{Eq, Ne, Hs, Lo, Mi, Pl, Vs, Vc, Hi, Ls, Ge, Lt, Gt, Le, Al, Nv}
+use Rattle.classes.specs.declared.Cond.TheVariants.{Eq, Ne, Hs, Lo, Mi, Pl, Vs, Vc, Hi, Ls, Ge, Lt, Gt, Le, Al, Nv, Other}
 
--- in the order of their numbers
+-- those that a word has, in the order of their numbers
 abbrev pub conds : List Cond
 conds = Eq ∷ Ne ∷ Hs ∷ Lo ∷ Mi ∷ Pl ∷ Vs ∷ Vc ∷ Hi ∷ Ls ∷ Ge ∷ Lt ∷ Gt ∷ Le ∷ Al ∷ Nv ∷ []
 
--- a condition's place in that order
+-- a condition's place in that order, or its own number
 unfoldable pub cond_no : Cond → ℕ
 cond_no Eq = 0
 cond_no Ne = 1
@@ -26,6 +26,7 @@ cond_no Gt = 12
 cond_no Le = 13
 cond_no Al = 14
 cond_no Nv = 15
+cond_no (Other number) = number
 
 -- one condition is another
 abbrev pub is_cond : Cond → Cond → Bool

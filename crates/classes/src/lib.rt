@@ -3,7 +3,9 @@
 
 pub mod fields;
 
-ghost use Rattle.std.specs.Prelude.{◌≡◌};
+ghost use Rattle.std.specs.Prelude.{◌≡◌, nat_eq};
+ghost use Rattle.std.specs.Cmp.{nat_eq_equiv, on_equiv, partial_equiv_from_equiv};
+ghost use Rattle.std.specs.Ordering.{on};
 ghost use Rattle.classes.specs.Class.{class_no};
 ghost use Rattle.classes.specs.Cond.{cond_no};
 
@@ -97,7 +99,7 @@ impl From<Class> for u8 {
 }
 
 // A condition, in the order of the numbers that its field has.
-#[derive(Clone, Copy, PartialEq, Eq)]
+#[derive(Clone, Copy)]
 pub enum Cond {
     Eq,
     Ne,
@@ -115,16 +117,51 @@ pub enum Cond {
     Le,
     Al,
     Nv,
+    // Any other number, of an instruction that was made up; no word has it.
+    Other(u8),
 }
 
 // A condition's number: what its field has.
 impl From<Cond> for u8 {
     ghost from_gives = { λ cond n. n ≡ cond_no cond };
 
-    #[tactic(auto, using(crate::proofs::Conds::numbers))]
+    #[tactic(auto, unfolding(crate::specs::Cond::cond_no))]
     fn from(cond: Cond) -> u8 {
-        cond as u8
+        match cond {
+            Cond::Eq => 0,
+            Cond::Ne => 1,
+            Cond::Hs => 2,
+            Cond::Lo => 3,
+            Cond::Mi => 4,
+            Cond::Pl => 5,
+            Cond::Vs => 6,
+            Cond::Vc => 7,
+            Cond::Hi => 8,
+            Cond::Ls => 9,
+            Cond::Ge => 10,
+            Cond::Lt => 11,
+            Cond::Gt => 12,
+            Cond::Le => 13,
+            Cond::Al => 14,
+            Cond::Nv => 15,
+            Cond::Other(number) => number,
+        }
     }
+}
+
+// By their numbers, so that a made-up one is the name that has its number.
+impl PartialEq for Cond {
+    ghost eq = { on cond_no nat_eq };
+
+    ghost laws = { partial_equiv_from_equiv (on_equiv cond_no nat_eq_equiv) };
+
+    fn eq(&self, other: &Cond) -> bool {
+        u8::from(*self) == u8::from(*other)
+    }
+}
+
+impl Eq for Cond {
+    ghost laws = { on_equiv cond_no nat_eq_equiv };
 }
 
 // A shift as addressing mode 1 names it; `Rrx` is the encoding of ROR #0.

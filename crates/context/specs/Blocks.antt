@@ -19,7 +19,7 @@ use Rattle.base.specs.declared.refusal.Refusal.{Refusal}
 use Rattle.base.specs.declared.refusal.Refusal.TheVariants.{BranchOutside, PoolOutside, UndefinedRegister, Beyond32Bits}
 use Rattle.base.specs.Words.{word_from}
 use Rattle.predicates.specs.declared.Mode.{Mode}
-use Rattle.predicates.specs.declared.Mode.TheVariants.{Arm, Thumb}
+use Rattle.predicates.specs.declared.Mode.TheVariants.{Arm, Thumb, Other}
 use Rattle.predicates.specs.Predicates.{is_branch, is_bx, is_return, saved_registers, is_entry_instruction, is_pool_load, pool_address, is_function_call, as_previous}
 use Rattle.registers.specs.Registers.{forgotten, holding, source_of}
 use Rattle.rows.specs.Rows.{rank, stands, inserted}
@@ -292,6 +292,7 @@ module _ (i : Ins) where
   called_as word None c = on c
   called_as word (Some Arm) c = call_to i word arm c
   called_as word (Some Thumb) c = call_to i word thumb c
+  called_as word (Some (Other mode)) c = call_to i word mode c
 
   unfoldable pub function_call : ℕ → Context → Step
   function_call word c = called_as word (is_function_call i) c

@@ -36,7 +36,7 @@ use Rattle.context.specs.Blocks.{from_return, to_return, handle_ins_inner, passe
 use Rattle.context.specs.Context.{Context, Step, on, goes, ends, refuses, ◌▸◌, with_machines, with_registers, jump_table_to}
 use Rattle.context.specs.Context.{enter_label, enter_pool, enter_jump_table, enter_inline_table, enter_call, label_row, pool_row, table_row, call_row}
 use Rattle.predicates.specs.declared.Mode.{Mode}
-use Rattle.predicates.specs.declared.Mode.TheVariants.{Arm, Thumb}
+use Rattle.predicates.specs.declared.Mode.TheVariants.{Arm, Thumb, Other}
 use Rattle.predicates.specs.Predicates.{is_branch, is_bx, is_entry_instruction, is_pool_load, pool_address, is_function_call}
 use Rattle.registers.specs.Registers.{source_of, holding}
 use Rattle.rows.specs.Rows.{inserted}
@@ -272,6 +272,7 @@ module _ (i : Ins) where
       step None = is-on
       step (Some Arm) = call-late word arm c
       step (Some Thumb) = call-late word thumb c
+      step (Some (Other mode)) = call-late word mode c
 
   check_defined-late : (returns : Bool) (c : Context) → Late (check_defined i returns c)
   unfolding check_defined

@@ -26,7 +26,7 @@ use Rattle.context.specs.Context.{Context, Maps, Step, on, goes, ends, refuses, 
 use Rattle.context.specs.Context.{raising, table_to, pool_to, defining, counting, moving, labels_to, pools_to, jump_tables_to, inline_tables_to, calls_to, label_row}
 use Rattle.context.specs.Context.{pool_row, table_row, call_row}
 use Rattle.predicates.specs.declared.Mode.{Mode}
-use Rattle.predicates.specs.declared.Mode.TheVariants.{Arm, Thumb}
+use Rattle.predicates.specs.declared.Mode.TheVariants.{Arm, Thumb, Other}
 use Rattle.predicates.specs.Predicates.{is_branch, is_bx, is_return, is_entry_instruction, is_pool_load, pool_address, is_function_call, as_previous}
 use Rattle.registers.specs.Registers.{forgotten, holding, source_of}
 use Rattle.rows.specs.Rows.{rank, inserted}
@@ -243,6 +243,7 @@ module _ (i : Ins) (size : ℕ) (P G : Context → Type 0) (E : ℕ → Context 
   called-kept word None c p = is-on p
   called-kept word (Some Arm) c p = call_kept word arm c p
   called-kept word (Some Thumb) c p = call_kept word thumb c p
+  called-kept word (Some (Other mode)) c p = call_kept word mode c p
 
   function_call-kept : (word : ℕ) (c : Context) → P c → Meet (function_call i word c)
   unfolding function_call

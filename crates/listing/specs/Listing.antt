@@ -3,7 +3,7 @@
 use Rattle.std.specs.Prelude.{ℕ, ◌+◌, ◌*◌, ◌/◌, ◌≤◌, min, List, [], ◌++◌, length}
 use Rattle.base.specs.Refusals.{refusal_no}
 use Rattle.context.specs.Context.{Maps, label_row, pool_row, table_row, call_row}
-use Rattle.context.specs.Lists.{Lists, lists, maps_in}
+use Rattle.context.specs.Lists.{Lists, maps_in}
 use Rattle.text.specs.Decimal.{decimal}
 use Rattle.walk.specs.declared.Answer.{Answer}
 use Rattle.walk.specs.declared.Answer.TheVariants.{Going, Accepted, Refused}
@@ -11,11 +11,8 @@ use Rattle.walk.specs.declared.Counts.{Counts}
 use Rattle.walk.specs.declared.Record.{Record}
 use Rattle.words.specs.Names.{bytes}
 use Rattle.listing.specs.Lines.{field, two_digits, newline, lines_of}
-use Rattle.listing.specs.declared.SharedLists.{SharedLists}
-
 -- what the lists hold
-abbrev pub rows_of : SharedLists → Lists
-rows_of s = lists s.labels.now s.pools.now s.jump_tables.now s.inline_tables.now s.calls.now
+pub use Rattle.lists.specs.Lists.{rows_of}
 
 -- start, end, first instruction, last instruction end, how many registers the first instruction saves
 unfoldable pub record_line : Record → List ℕ

@@ -13,19 +13,10 @@ ghost use Rattle.listing.specs.Listing.{rows_of, record_line, refusal_line, list
 
 use base::refusal::Refusal;
 use context::{CALL_ROW, LABEL_ROW, POOL_ROW, TABLE_ROW};
+pub use lists::SharedLists;
 use text::Writer;
 use walk::{Answer, Counts, Record};
 use words::NoRoom;
-
-// The five lists, lent to be read.
-#[derive(Clone, Copy)]
-pub struct SharedLists<'a> {
-    pub labels: &'a [u32],
-    pub pools: &'a [u32],
-    pub jump_tables: &'a [u32],
-    pub inline_tables: &'a [u32],
-    pub calls: &'a [u32],
-}
 
 pub fn put_field(writer: &mut Writer<'_>, value: u32)
     requires { HasRoom writer.old 9 }

@@ -7,10 +7,15 @@ use Rattle.context.specs.Lists.{lists}
 use Rattle.rows.specs.Map.{in_order}
 use Rattle.walk.specs.declared.Counts.{Counts}
 use Rattle.lists.specs.declared.Lists.{Lists}
+use Rattle.lists.specs.declared.shared.SharedLists.{SharedLists}
 
 -- their numbers, where these are the calls'
 abbrev pub lists_of : {C : Type 0} → (C → List ℕ) → Lists C → Rattle.context.specs.Lists.Lists
 lists_of numbers l = lists l.labels.now l.pools.now l.jump_tables.now l.inline_tables.now (numbers l.calls)
+
+-- what lists of numbers hold that are lent to be read
+abbrev pub rows_of : SharedLists → Rattle.context.specs.Lists.Lists
+rows_of s = lists s.labels.now s.pools.now s.jump_tables.now s.inline_tables.now s.calls.now
 
 -- each list holds a map of its count, and zeros after it
 unfoldable pub are_in_order : Counts → Rattle.context.specs.Lists.Lists → Bool

@@ -1,14 +1,30 @@
-// The five lists that a host lends a walk.
+// The five lists that a host lends a walk, and the same to be read alone.
 #![tactic(auto)]
 
+mod shared;
+
 ghost use Rattle.std.specs.Prelude.{◌≡◌};
-ghost use Rattle.context.specs.Lists.{AllHeld, zeroed};
+ghost use Rattle.context.specs.Lists.{AllHeld, zeroed, Lists as Numbers};
 ghost use Rattle.lists.specs.Lists.{lists_of, are_in_order, IsSame};
 
 use calls::CallList;
 use context::{Labels, Pools, Tables};
 use rows::order::zero;
+pub use shared::SharedLists;
 use walk::Counts;
+
+// What five lists hold, to whoever only reads them.
+pub trait LentLists {
+    // their numbers
+    ghost numbers: { Self → Numbers };
+
+    // Whether each list holds a map of its count.
+    fn in_order(&self, n: Counts) -> bool
+        ensures { result ≡ are_in_order n (numbers self.now) };
+
+    fn pools(&self) -> &[u32]
+        ensures { result.now ≡ (numbers self.now).pools };
+}
 
 #[derive(Drop)]
 pub struct Lists<'a, C: CallList> {
@@ -55,5 +71,17 @@ impl<'a, C: CallList> Lists<'a, C> {
         Tables::clear(self.jump_tables, n.jump_tables);
         Tables::clear(self.inline_tables, n.inline_tables);
         self.calls.clear(n.calls);
+    }
+}
+
+impl<'a, C: CallList> LentLists for Lists<'a, C> {
+    ghost numbers = { λ l. lists_of C.numbers l };
+
+    fn in_order(&self, n: Counts) -> bool {
+        Lists::in_order(self, n)
+    }
+
+    fn pools(&self) -> &[u32] {
+        self.pools
     }
 }

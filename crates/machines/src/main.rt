@@ -61,13 +61,14 @@ impl Record {
         }
     }
 
-    // A reason by its number: one of those that the machine gives.
+    // A reason by its number: those that the machine gives have names, and any other is taken as it is.
     fn reason(self) -> Refusal {
-        match self.a {
+        match small(self.a) {
             5 => Refusal::IllegalOpcode,
             6 => Refusal::ShiftedBase,
             7 => Refusal::OffsetByItself,
-            _ => Refusal::PcIntoPc,
+            8 => Refusal::PcIntoPc,
+            other => Refusal::Other(other),
         }
     }
 
@@ -142,7 +143,7 @@ impl From<IllegalCodeState> for Row {
         match state {
             IllegalCodeState::Start => Row::default(),
             IllegalCodeState::ShiftedRegisterValue { reg } => Row::state(1, u32::from(reg), 0),
-            IllegalCodeState::Illegal { reason } => Row::state(2, reason as u32, 0),
+            IllegalCodeState::Illegal { reason } => Row::state(2, u32::from(u8::from(reason)), 0),
         }
     }
 }
@@ -232,13 +233,18 @@ fn next_row(record: Record) -> Result<Row, Refusal> {
     }
 }
 
+// In one write: the stream has no buffer.
 fn write_line<W: Write>(output: &mut W, record: Record) -> io::Result<()> {
-    let machine = record.machine;
     let Row { tag, a, b, c, x, y } = next_row(record).unwrap_or(REFUSED);
-    writeln!(
-        output,
-        "{machine:08x} {tag:08x} {a:08x} {b:08x} {c:08x} {x:08x} {y:08x}"
-    )
+    let mut line = *b"00000000 00000000 00000000 00000000 00000000 00000000 00000000\n";
+    text::put_hex(&mut line, 0, 8, record.machine);
+    text::put_hex(&mut line, 9, 8, tag);
+    text::put_hex(&mut line, 18, 8, a);
+    text::put_hex(&mut line, 27, 8, b);
+    text::put_hex(&mut line, 36, 8, c);
+    text::put_hex(&mut line, 45, 8, x);
+    text::put_hex(&mut line, 54, 8, y);
+    output.write_all(&line)
 }
 
 // A line for each record; what is left over at the end is none.

@@ -32,8 +32,6 @@ pub fn pattern(offset: i32) -> u32
 pub fn destination(address: u32, offset: i32, extra: u32) -> u32
     ensures { result ≡ destination address offset extra }
 {
-    address
-        .wrapping_add(8)
-        .wrapping_add(pattern(offset).wrapping_mul(4))
-        .wrapping_add(extra)
+    let sum = address as u64 + 8 + 4 * (pattern(offset) as u64) + extra as u64;
+    (sum % 0x1_0000_0000) as u32
 }

@@ -20,7 +20,7 @@ use Rattle.analysis.specs.Pattern.{is_when, is_data, is_lsl, is_register, sp, lr
 use Rattle.base.specs.Choice.{pick, both}
 use Rattle.predicates.specs.declared.Previous.{Previous}
 use Rattle.predicates.specs.declared.Mode.{Mode}
-use Rattle.predicates.specs.declared.Mode.TheVariants.{Arm, Thumb}
+use Rattle.predicates.specs.declared.Mode.TheVariants.{Arm, Thumb, Other}
 
 -- a register stands in a list
 abbrev pub has_lr : ℕ → Bool
@@ -77,6 +77,7 @@ is_function_call i = pick (is i.class Bl) (Some Arm) (pick (is i.class Blx1) (So
 abbrev pub mode_no : Mode → ℕ
 mode_no Arm = 0
 mode_no Thumb = 1
+mode_no (Other number) = number
 
 -- is_return of an instruction that is not conditional, in the source's order
 abbrev pub is_ia : LdmStmMode → Bool

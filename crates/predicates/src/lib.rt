@@ -1,12 +1,14 @@
 // What the function walk asks of one instruction (functions.rs of ds-decomp), in the source's names.
 #![tactic(auto)]
 
-ghost use Rattle.std.specs.Prelude.{◌≡◌, ◌<◌, ◌/◌, ◌%◌, ◌^◌, eqb};
+ghost use Rattle.std.specs.Prelude.{◌≡◌, ◌<◌, ◌/◌, ◌%◌, ◌^◌, eqb, nat_eq};
+ghost use Rattle.std.specs.Cmp.{nat_eq_equiv, on_equiv, partial_equiv_from_equiv};
+ghost use Rattle.std.specs.Ordering.{on};
 ghost use Rattle.predicates.specs.Predicates.{saved_registers, is_branch, is_off_pc, is_pool_load, offset_of, pool_address};
 ghost use Rattle.predicates.specs.Predicates.{is_bx, is_mov_pc, is_ldm_pc, is_pop_pc, is_branch_back, is_subs_pc_lr, is_ldr_pc, is_eor_pc, is_add_pc};
 ghost use Rattle.predicates.specs.Predicates.{is_return_always, is_adds_four, is_return_after, is_return, is_nop, is_push, is_off_sp, is_stack_store, as_previous, mode_no, is_function_call};
 
-use analysis::pattern::{LR, PC, SP, is_data, is_register, is_when};
+use analysis::pattern::{LR, PC, SP, is_data, is_lsl, is_register, is_when};
 use arm::Ins;
 use classes::{AddrLdrStr, Class, Cond, LdmStmMode, LdrStrOffset, Op2, ShiftOp};
 
@@ -18,19 +20,41 @@ pub struct Previous {
     pub is_adds_four: bool,
 }
 
-// The mode of the function that an instruction calls, with its number in a row of the calls.
-#[derive(Clone, Copy, PartialEq, Eq)]
+// The mode of the function that an instruction calls.
+#[derive(Clone, Copy)]
 pub enum Mode {
-    Arm = 0,
-    Thumb = 1,
+    Arm,
+    Thumb,
+    // Any other number, as a step that a host made up may put it in a row; no library function makes one.
+    Other(u32),
 }
 
+// A mode's number in a row of the calls.
 impl From<Mode> for u32 {
     ghost from_gives = { λ mode n. n ≡ mode_no mode };
 
     fn from(mode: Mode) -> u32 {
-        mode as u32
+        match mode {
+            Mode::Arm => 0,
+            Mode::Thumb => 1,
+            Mode::Other(number) => number,
+        }
     }
+}
+
+// By their numbers, so that a made-up one is the name that has its number.
+impl PartialEq for Mode {
+    ghost eq = { on mode_no nat_eq };
+
+    ghost laws = { partial_equiv_from_equiv (on_equiv mode_no nat_eq_equiv) };
+
+    fn eq(&self, other: &Mode) -> bool {
+        u32::from(*self) == u32::from(*other)
+    }
+}
+
+impl Eq for Mode {
+    ghost laws = { on_equiv mode_no nat_eq_equiv };
 }
 
 // A register stands in a list.
@@ -202,10 +226,7 @@ fn is_add_pc(ins: Ins) -> bool
         && ins.rd == PC
         && matches!(
             ins.op2,
-            Op2::ShiftImm {
-                shift_op: ShiftOp::Lsl,
-                ..
-            }
+            Op2::ShiftImm { shift_op, .. } if is_lsl(shift_op)
         )
         && ins.rn != PC
 }

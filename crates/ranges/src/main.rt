@@ -17,7 +17,7 @@ fn immediate(op2: Op2) -> u32 {
     if let Op2::Imm(v) = op2 { v } else { 0 }
 }
 
-// A line for each record; what is left over at the end is none.
+// A line for each record, in one write, since the stream has no buffer; what is left over at the end is none.
 fn write_lines<W: Write>(output: &mut W, input: &[u8]) -> io::Result<()> {
     let (records, _) = input.as_chunks::<8>();
     for record in records {
@@ -27,10 +27,13 @@ fn write_lines<W: Write>(output: &mut W, input: &[u8]) -> io::Result<()> {
         let target = ins.target;
         let offset = load_offset(ins.addr);
         let operand = immediate(ins.op2);
-        writeln!(
-            output,
-            "{word:08x} {address:08x} {target:08x} {offset:08x} {operand:08x}"
-        )?;
+        let mut line = *b"00000000 00000000 00000000 00000000 00000000\n";
+        text::put_hex(&mut line, 0, 8, word);
+        text::put_hex(&mut line, 9, 8, address);
+        text::put_hex(&mut line, 18, 8, target);
+        text::put_hex(&mut line, 27, 8, offset);
+        text::put_hex(&mut line, 36, 8, operand);
+        output.write_all(&line)?;
     }
     Ok(())
 }

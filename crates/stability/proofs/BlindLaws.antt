@@ -23,7 +23,7 @@ use Rattle.context.specs.Context.{Given, Context, on, ends, refuses, going_to, w
 use Rattle.context.specs.Context.{pool_to, defining, jump_table_to, inline_table_to, illegal_code_to, labels_to, jump_tables_to, inline_tables_to, calls_to}
 use Rattle.context.specs.Context.{enter_label, enter_jump_table, enter_inline_table, enter_call, label_row, pool_row, table_row, call_row}
 use Rattle.predicates.specs.declared.Mode.{Mode}
-use Rattle.predicates.specs.declared.Mode.TheVariants.{Arm, Thumb}
+use Rattle.predicates.specs.declared.Mode.TheVariants.{Arm, Thumb, Other}
 use Rattle.predicates.specs.Predicates.{is_branch, is_bx, is_entry_instruction, is_pool_load, pool_address, is_function_call}
 use Rattle.registers.specs.Registers.{column_forgotten, forgotten, holding, source_of}
 use Rattle.base.proofs.ChoiceLaws.{both-second}
@@ -271,6 +271,7 @@ module _ (g : Given) (c d : List ℕ) (a : ℕ) where
     called-as word None x t s = both-on x t s
     called-as word (Some Arm) x t s = call-to word arm x t s
     called-as word (Some Thumb) x t s = call-to word thumb x t s
+    called-as word (Some (Other mode)) x t s = call-to word mode x t s
 
     pub function-call : (word : ℕ) → Blind g c d a (function_call i word)
     unfolding function_call

@@ -3,14 +3,12 @@
 
 ghost use Rattle.std.specs.Prelude.{◌≡◌, length};
 ghost use Rattle.context.specs.Turn.{key_or0};
-ghost use Rattle.lists.specs.Lists.{lists_of};
 ghost use Rattle.rows.specs.Map.{last_key};
 ghost use Rattle.validity.specs.Validity.{is_window, is_in_code, are_starts, begin_check, is_whole, are_whole, are_held, are_pools, are_bytes, are_lists, step_check};
 
 use base::refusal::Refusal;
-use calls::CallList;
 use context::{Pools, Starts};
-use lists::Lists;
+use lists::LentLists;
 use walk::{Options, Progress, Walk};
 
 // The addresses of a program.
@@ -113,8 +111,8 @@ fn are_bytes(p: Progress) -> bool
 }
 
 #[tactic(auto, unfolding(crate::specs::Validity::are_lists))]
-fn are_lists<C: CallList>(o: Options, length: usize, w: Walk, lists: &Lists<C>) -> bool
-    ensures { result ≡ are_lists o length w (lists_of C.numbers lists.now) }
+fn are_lists<L: LentLists>(o: Options, length: usize, w: Walk, lists: &L) -> bool
+    ensures { result ≡ are_lists o length w (L.numbers lists.now) }
 {
     let n = w.counts;
     let last_pool_address = w.progress.last_pool_address;
@@ -125,19 +123,19 @@ fn are_lists<C: CallList>(o: Options, length: usize, w: Walk, lists: &Lists<C>) 
             length,
             last_pool_address,
             sources,
-            &Pools::new(lists.pools, n.pools),
+            &Pools::new(lists.pools(), n.pools),
         )
 }
 
 #[tactic(auto, using(std::proofs::lemmas::Bool::Decides::nat_tests), unfolding(crate::specs::Validity::step_check))]
-pub fn step<C: CallList>(
+pub fn step<L: LentLists>(
     o: Options,
     length: usize,
     starts: &[u32],
     w: Walk,
-    lists: &Lists<C>,
+    lists: &L,
 ) -> Result<(), Refusal>
-    ensures { result ≡ step_check o length starts.now w (lists_of C.numbers lists.now) }
+    ensures { result ≡ step_check o length starts.now w (L.numbers lists.now) }
 {
     let p = w.progress;
     if !is_window(o, length) {

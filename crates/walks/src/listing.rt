@@ -1,17 +1,35 @@
 // The lines that the program writes.
-ghost use Rattle.std.specs.Prelude.{◌<◌};
+ghost use Rattle.std.specs.Prelude.{◌≤◌, ◌<◌, length};
 
 use base::refusal::Refusal;
 use context::{CALL_ROW, LABEL_ROW, POOL_ROW, TABLE_ROW};
 use lists::Lists;
 use std::io::{self, Stdout, Write};
 use stepper::Answered;
+use text::Writer;
 use walk::{Answer, Counts};
+
+// A name, numbers of eight digits and what ends the line, in one write. Most lines are such, and a format takes longer.
+#[tactic(auto, using(text::proofs::Hex::lengths))]
+fn put_line(output: &mut Stdout, name: &[u8], numbers: &[u32], ending: &[u8]) -> io::Result<()>
+    requires { (length name.now ≤ 6) × (length numbers.now ≤ 3) × (length ending.now ≤ 7) }
+{
+    let mut line = [0u8; 40];
+    let mut writer = Writer::new(&mut line);
+    writer.put_bytes(name);
+    for number in numbers {
+        writer.put_byte(b' ');
+        writer.put_hex(8, *number);
+    }
+    writer.put_bytes(ending);
+    let end = writer.at;
+    output.write_all(&line[..end])
+}
 
 fn put_labels(output: &mut Stdout, labels: &[u32], count: usize) -> io::Result<()> {
     let (rows, _) = labels.as_chunks::<LABEL_ROW>();
-    for [address] in rows.iter().take(count) {
-        writeln!(output, "label {address:08x}")?;
+    for row in rows.iter().take(count) {
+        put_line(output, b"label", row, b"\n")?;
     }
     Ok(())
 }
@@ -19,16 +37,18 @@ fn put_labels(output: &mut Stdout, labels: &[u32], count: usize) -> io::Result<(
 fn put_pools(output: &mut Stdout, pools: &[u32], count: usize) -> io::Result<()> {
     let (rows, _) = pools.as_chunks::<POOL_ROW>();
     for [address, value, mark] in rows.iter().take(count) {
-        let usage = if *mark == 1 { "call" } else { "other" };
-        writeln!(output, "pool {address:08x} {value:08x} {usage}")?;
+        let usage: &[u8] = if *mark == 1 { b" call\n" } else { b" other\n" };
+        put_line(output, b"pool", &[*address, *value], usage)?;
     }
     Ok(())
 }
 
-fn put_tables(output: &mut Stdout, name: &str, tables: &[u32], count: usize) -> io::Result<()> {
+fn put_tables(output: &mut Stdout, name: &[u8], tables: &[u32], count: usize) -> io::Result<()>
+    requires { length name.now ≤ 6 }
+{
     let (rows, _) = tables.as_chunks::<TABLE_ROW>();
-    for [address, size] in rows.iter().take(count) {
-        writeln!(output, "{name} {address:08x} {size:08x}")?;
+    for row in rows.iter().take(count) {
+        put_line(output, name, row, b"\n")?;
     }
     Ok(())
 }
@@ -36,11 +56,8 @@ fn put_tables(output: &mut Stdout, name: &str, tables: &[u32], count: usize) -> 
 fn put_calls(output: &mut Stdout, calls: &[u32], count: usize) -> io::Result<()> {
     let (rows, _) = calls.as_chunks::<CALL_ROW>();
     for [address, word, destination, mode] in rows.iter().take(count) {
-        let mode = if *mode == 0 { "arm" } else { "thumb" };
-        writeln!(
-            output,
-            "call {address:08x} {word:08x} {destination:08x} {mode}"
-        )?;
+        let mode: &[u8] = if *mode == 0 { b" arm\n" } else { b" thumb\n" };
+        put_line(output, b"call", &[*address, *word, *destination], mode)?;
     }
     Ok(())
 }
@@ -57,13 +74,11 @@ fn put_rest(
     requires { 0 < stride }
 {
     let end = stride * count.min(rows.len() / stride);
-    let left = rows
-        .iter()
-        .enumerate()
-        .skip(end)
-        .find(|(_, value)| **value != 0);
-    if let Some((i, value)) = left {
-        writeln!(output, "place {list:08x} {i:08x} {value:08x}")?;
+    let left = rows[end..].iter().position(|value| *value != 0);
+    if let Some(past) = left {
+        let i = end + past;
+        let value = rows[i];
+        println!(output; "place {list:08x} {i:08x} {value:08x}")?;
     }
     Ok(())
 }
@@ -71,8 +86,8 @@ fn put_rest(
 fn put_lists(output: &mut Stdout, n: Counts, lists: &Lists<&mut [u32]>) -> io::Result<()> {
     put_labels(output, lists.labels, n.labels)?;
     put_pools(output, lists.pools, n.pools)?;
-    put_tables(output, "jump", lists.jump_tables, n.jump_tables)?;
-    put_tables(output, "inline", lists.inline_tables, n.inline_tables)?;
+    put_tables(output, b"jump", lists.jump_tables, n.jump_tables)?;
+    put_tables(output, b"inline", lists.inline_tables, n.inline_tables)?;
     put_calls(output, lists.calls, n.calls)?;
     put_rest(output, 1, lists.labels, LABEL_ROW, n.labels)?;
     put_rest(output, 2, lists.pools, POOL_ROW, n.pools)?;
@@ -84,15 +99,12 @@ fn put_lists(output: &mut Stdout, n: Counts, lists: &Lists<&mut [u32]>) -> io::R
 // `is_full`: with the register of an 11, which the stored answers of the Rust do not have.
 fn put_answer(output: &mut Stdout, answer: Answer, is_full: bool) -> io::Result<()> {
     match answer {
-        Answer::Going => writeln!(output, "going"),
+        Answer::Going => println!(output; "going"),
         Answer::Accepted(r) => {
             let (start, end) = (r.start, r.end);
             let (first, last_end) = (r.first_instruction, r.last_instruction_end);
             let saved = r.saved_registers;
-            writeln!(
-                output,
-                "function {start:08x} {end:08x} {first:08x} {last_end:08x} {saved:02}"
-            )
+            println!(output; "function {start:08x} {end:08x} {first:08x} {last_end:08x} {saved:02}")
         }
         Answer::Refused {
             refusal,
@@ -100,9 +112,9 @@ fn put_answer(output: &mut Stdout, answer: Answer, is_full: bool) -> io::Result<
             register,
         } => {
             let number = u8::from(refusal);
-            writeln!(output, "refused {number} {address:08x}")?;
+            println!(output; "refused {number} {address:08x}")?;
             if is_full && refusal == Refusal::UndefinedRegister {
-                writeln!(output, "register {register:02}")?;
+                println!(output; "register {register:02}")?;
             }
             Ok(())
         }
@@ -138,7 +150,7 @@ pub fn put_step(
     }
     if answer == Answer::Going {
         let after = next.walk.progress.address;
-        writeln!(output, "step {before:08x} {after:08x}")?;
+        put_line(output, b"step", &[before, after], b"\n")?;
     } else {
         put_answer(output, answer, is_full)?;
     }

@@ -1,6 +1,6 @@
 -- The text of an input, and what its writer answers and leaves in the buffer.
 -- Assumes nothing.
-use Rattle.std.specs.Prelude.{ℕ, ◌*◌, ◌/◌, ◌%◌, ◌≡◌, Bool, false, List, Result, Ok, Err, eqb, leb, length}
+use Rattle.std.specs.Prelude.{ℕ, ◌*◌, ◌/◌, ◌%◌, ◌≡◌, Bool, false, List, Result, Ok, Err, eqb, leb, ◌≤◌, length, take}
 use Rattle.base.specs.Choice.{pick}
 use Rattle.text.specs.Put.{put}
 use Rattle.words.specs.declared.NoRoom.{NoRoom}
@@ -40,3 +40,9 @@ no_room = record {}
 pub record Answered (text : List ℕ) (room : ℕ) (before : List ℕ) (r : Result ℕ NoRoom) (after : List ℕ) : Type 0 where
   pub answer : r ≡ pick (leb room (length before)) (Ok (length text)) (Err no_room)
   pub buffer : after ≡ pick (leb room (length before)) (put before 0 text) before
+
+-- what `out` holds after `output::run`: the text of the first so many bytes of `input`, where it has the room
+pub record Translated (text : Text) (input : List ℕ) (before after : List ℕ) : Type 0 where
+  pub count : ℕ
+  pub fits : count ≤ length input
+  pub buffer : after ≡ pick (leb (room_for (take count input)) (length before)) (put before 0 (text_as text (take count input))) before

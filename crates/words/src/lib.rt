@@ -150,7 +150,7 @@ fn refuse(out: &mut [u8]) -> Result<usize, NoRoom>
 }
 
 // The whole text, or the line that says that the input is refused.
-pub(crate) fn put_text(input: &[u8], out: &mut [u8], text: Text) -> Result<usize, NoRoom>
+fn put_text(input: &[u8], out: &mut [u8], text: Text) -> Result<usize, NoRoom>
     ensures { Answered (text_as text input.now) (room_for input.now) out.old result out.new }
 {
     if input.len() % 4 != 0 || input.len() > 65536 {

@@ -3,7 +3,7 @@ use Rattle.base.proofs.Prelude.{refl, ◌≡◌, ℕ}
 use Rattle.std.specs.Prelude.{Some}
 use Rattle.arm.specs.declared.Ins.{Ins}
 use Rattle.predicates.specs.declared.Mode.{Mode}
-use Rattle.predicates.specs.declared.Mode.TheVariants.{Arm, Thumb}
+use Rattle.predicates.specs.declared.Mode.TheVariants.{Arm, Thumb, Other}
 use Rattle.predicates.specs.Predicates.{mode_no}
 use Rattle.context.specs.Blocks.{call_to, called_as, function_call}
 use Rattle.context.specs.Context.{Context}
@@ -14,6 +14,7 @@ use Rattle.branches.proofs.function_call.Goals as goal
 by_number : (i : Ins) (word : ℕ) (m : Mode) (x : Context) → call_to i word (mode_no m) x ≡ called_as i word (Some m) x
 by_number i word Arm x = refl
 by_number i word Thumb x = refl
+by_number i word (Other mode) x = refl
 
 pub returns-in-Some : goal.returns-in-Some
 unfolding function_call

@@ -4,4 +4,6 @@ use Rattle.validity.proofs.Laws.{order-held}
 use Rattle.validity.proofs.are_lists.Goals as goal
 
 pub new-requires : goal.new-requires
-new-requires g c = (omega arith, ((order-held _ _ (sym c.in_order.ensures ∙ c.if-in_order.true)).pools, omega arith))
+new-requires g c =
+    let held = order-held _ _ (sym c.in_order.ensures ∙ c.if-in_order.true) in
+    (omega arith, (rw c.pools.ensures held.pools, omega arith))

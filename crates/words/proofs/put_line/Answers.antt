@@ -2,7 +2,7 @@
 use Rattle.base.proofs.Prelude.{arith}
 use Rattle.text.specs.Hex.{hex, digits}
 use Rattle.text.proofs.Writers.{wrote_then}
-use Rattle.classes.proofs.Conds.{cond-below}
+use Rattle.arm.proofs.ConditionLaws.{condition-number}
 use Rattle.words.specs.Names.{bytes, conditions}
 use Rattle.words.specs.Lines.{ins_line_of, line_of, tail_of}
 use Rattle.words.proofs.Tables.{letters, condition-row, condition-short}
@@ -10,7 +10,9 @@ use Rattle.words.proofs.Texts.{head-length}
 use Rattle.words.proofs.put_line.Goals as goal
 
 pub bounds-from : goal.bounds-from
-bounds-from c = rw c.from.ensures (cond-below c.decode-ins.result.cond)
+bounds-from c =
+    let field = condition-number c.args.word 0 (omega (arith, c)) in
+    rw (c.from.ensures, c.decode-ins.ensures) (omega (arith, c, field))
 
 pub put_field-requires : goal.put_field-requires
 unfolding letters bytes conditions

@@ -1,8 +1,7 @@
 -- `copy_records` meets its contract: the rows so far, and one more.
 use Rattle.base.proofs.Prelude.{◌∙◌, sym, ◌≡◌, ap, ◌+◌, ◌*◌, take, get_or, arith}
 use Rattle.std.proofs.lemmas.List.{take_all}
-use Rattle.calls.specs.Records.{row_of, numbers_of}
-use Rattle.calls.proofs.RecordLaws.{none}
+use Rattle.calls.specs.Records.{row_of, numbers_of, none}
 use Rattle.context.specs.Context.{call_row}
 use Rattle.rows.specs.Map.{flat}
 use Rattle.text.specs.Put.{put}

@@ -3,7 +3,8 @@ use Rattle.base.proofs.Prelude.{◌∙◌, rules}
 use Rattle.std.proofs.Common.{tests}
 use Rattle.std.proofs.lemmas.Iterator.{YieldsList-from_slice}
 use Rattle.std.proofs.lemmas.Iterator.Search.{all_from_yields_List}
-use Rattle.calls.proofs.RecordLaws.{is_none, zeros-all}
+use Rattle.calls.specs.Records.{is_none}
+use Rattle.calls.proofs.RecordLaws.{zeros-all}
 use Rattle.calls.proofs.records.are_zero.Goals as goal
 
 pub returns : goal.returns

@@ -1,6 +1,7 @@
 -- Records: `zero` meets its contract.
 use Rattle.base.proofs.Prelude.{◌≡◌, length, replicate, rules}
-use Rattle.calls.proofs.RecordLaws.{none, zeroed}
+use Rattle.calls.specs.Records.{none}
+use Rattle.calls.proofs.RecordLaws.{zeroed}
 use Rattle.calls.proofs.records.RefMutSliceCallCallList.zero.Goals as goal
 
 pub returns-clause-zeros : goal.returns-clause-zeros

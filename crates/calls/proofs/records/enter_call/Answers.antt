@@ -1,10 +1,10 @@
--- `records::enter` meets its contract. By where the search found the call's place.
+-- `records::enter_call` meets its contract. By where the search found the call's place.
 use Rattle.base.proofs.Prelude.{arith, rules}
 use Rattle.std.proofs.lemmas.List.Sorted.{answers_always}
 use Rattle.calls.specs.declared.Call.{Call}
 use Rattle.calls.proofs.RecordLaws.{held-room}
 use Rattle.calls.proofs.EntryLaws.{replaces, adds, full}
-use Rattle.calls.proofs.records.enter.Goals as goal
+use Rattle.calls.proofs.records.enter_call.Goals as goal
 
 pub returns-in-Ok : goal.returns-in-Ok
 returns-in-Ok c =

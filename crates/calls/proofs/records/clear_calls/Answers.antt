@@ -1,7 +1,8 @@
--- `records::clear` meets its contract. The calls' places are filled, and those after them were zero.
+-- `records::clear_calls` meets its contract. The calls' places are filled, and those after them were zero.
 use Rattle.base.proofs.Prelude.{◌≡◌, length, take, replicate, length-take-le, rules}
-use Rattle.calls.proofs.RecordLaws.{none, held-room, cleared}
-use Rattle.calls.proofs.records.clear.Goals as goal
+use Rattle.calls.specs.Records.{none}
+use Rattle.calls.proofs.RecordLaws.{held-room, cleared}
+use Rattle.calls.proofs.records.clear_calls.Goals as goal
 
 pub returns : goal.returns
 returns c =
