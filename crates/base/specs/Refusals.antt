@@ -1,6 +1,6 @@
 -- The refusals of documents 01 and 02, by name.
 -- Assumes nothing.
-use Rattle.std.specs.Prelude.{ℕ}
+use Rattle.std.specs.Prelude.{ℕ, Bool, true, false}
 use Rattle.base.specs.declared.refusal.Refusal.{Refusal}
 use Rattle.base.specs.declared.refusal.Refusal.TheVariants.{BadWindow, BadStart, UnalignedStart, BadLists, IllegalOpcode, ShiftedBase, OffsetByItself, PcIntoPc, BranchOutside}
 use Rattle.base.specs.declared.refusal.Refusal.TheVariants.{PoolOutside, UndefinedRegister, Beyond32Bits, ListFull, NoEpilogue, NotDone, BadRequest, EmptyRecord, NoRoom, Other}
@@ -26,3 +26,8 @@ refusal_no BadRequest = 16
 refusal_no EmptyRecord = 17
 refusal_no NoRoom = 18
 refusal_no (Other number) = number
+
+-- it has one of those names
+abbrev pub is_named : Refusal → Bool
+is_named (Other number) = false
+is_named refusal = true

@@ -1,2 +1,3 @@
--- What the proofs about classes share.
+-- What the proofs about classes and conditions share.
+pub mod Conds
 pub mod Numbers

@@ -1,6 +1,6 @@
 -- The conditions and their numbers, as the condition field has them.
 -- Assumes nothing.
-use Rattle.std.specs.Prelude.{ℕ, Bool, List, [], ◌∷◌, eqb}
+use Rattle.std.specs.Prelude.{ℕ, Bool, true, false, List, [], ◌∷◌, eqb}
 use Rattle.classes.specs.declared.Cond.{Cond}
 use Rattle.classes.specs.declared.Cond.TheVariants.{Eq, Ne, Hs, Lo, Mi, Pl, Vs, Vc, Hi, Ls, Ge, Lt, Gt, Le, Al, Nv, Other}
 
@@ -27,6 +27,11 @@ cond_no Le = 13
 cond_no Al = 14
 cond_no Nv = 15
 cond_no (Other number) = number
+
+-- it is one of those that a word has
+abbrev pub is_named : Cond → Bool
+is_named (Other number) = false
+is_named cond = true
 
 -- one condition is another
 abbrev pub is_cond : Cond → Cond → Bool

@@ -1,14 +1,14 @@
 -- What a whole walk comes to: it never goes on; a refusal has a number from 1 to 14; 1 to 4 change nothing, and 5 to 14 leave no entries and zeros.
 -- Assumes nothing.
-use Rattle.base.proofs.Prelude.{refl, ◌≡◌, subst⁻¹, false, true, Bool, List, ◌≤◌, ℕ, suc, zero, ◌%◌, arith, eqb, ltb, leb, length, le-leb, lt-leb}
-use Rattle.base.proofs.Prelude.{leb-true, eqb-false}
+use Rattle.base.proofs.Prelude.{refl, ◌≡◌, subst⁻¹, false, true, Bool, List, ◌≤◌, ℕ, suc, zero, arith, ltb, leb, length, le-leb, lt-leb}
+use Rattle.base.proofs.Prelude.{leb-true}
 use Rattle.std.specs.Prelude.{Result, Ok, Err}
 use Rattle.base.specs.declared.refusal.Refusal.{Refusal}
-use Rattle.base.specs.Refusals.{refusal_no}
+use Rattle.base.specs.Refusals.{refusal_no, is_named}
 use Rattle.arm.specs.Ins.{decode_of}
 use Rattle.std.specs.Prelude.{Option, Some, None}
 use Rattle.base.specs.Choice.{pick}
-use Rattle.base.specs.declared.refusal.Refusal.TheVariants.{BadWindow, BadStart, UnalignedStart, BadLists, NoEpilogue}
+use Rattle.base.specs.declared.refusal.Refusal.TheVariants.{NoEpilogue}
 use Rattle.base.specs.Words.{word_from}
 use Rattle.context.specs.Context.{Maps, Given, Context, Step}
 use Rattle.context.specs.Lists.{Lists, zeroed, places_of, given_by}
@@ -17,8 +17,9 @@ use Rattle.invariants.specs.Turns.{turns_from}
 use Rattle.base.proofs.ChoiceLaws.{both_true}
 use Rattle.invariants.proofs.KeptLaws.{none-fits, written-places}
 use Rattle.invariants.proofs.StepLaws.{same-written}
-use Rattle.stepper.specs.Stepper.{After, is_going, begin, begin_where, turned}
-use Rattle.validity.specs.Validity.{is_window, is_in_code, are_starts, begin_check}
+use Rattle.stepper.specs.Stepper.{is_going, begin, begin_where, turned}
+use Rattle.validity.specs.Validity.{begin_check}
+use Rattle.validity.proofs.EarlyLaws.{IsEarly, begin-early}
 use Rattle.walk.specs.declared.Answer.{Answer}
 use Rattle.walk.specs.declared.Answer.TheVariants.{Going, Accepted, Refused}
 use Rattle.walk.specs.declared.Counts.{Counts}
@@ -34,23 +35,24 @@ use Rattle.whole.proofs.WholeLaws.{opened, first, last, last-ended, run-whole, r
 -- ---- a turn
 
 -- a refusal that ends the walk, and leaves no entries
-record Emptied (number : ℕ) (t : Turned) : Type 0 where
-  least : 5 ≤ number
-  most : number ≤ 14
+pub record Emptied (refusal : Refusal) (t : Turned) : Type 0 where
+  pub named : is_named refusal ≡ true
+  least : 5 ≤ refusal_no refusal
+  most : refusal_no refusal ≤ 14
   counted : t.walk.counts ≡ counts_of no_maps
   maps : t.maps ≡ no_maps
 
-abbrev Over : Answer → Turned → Type 0
+abbrev pub Over : Answer → Turned → Type 0
 Over Going t = Unit {0}
 Over (Accepted r) t = Unit {0}
-Over (Refused refusal address register) t = Emptied (refusal_no refusal) t
+Over (Refused refusal address register) t = Emptied refusal t
 
-abbrev IsOver : Turned → Type 0
+abbrev pub IsOver : Turned → Type 0
 IsOver t = Over t.walk.result t
 
 -- into_function
 function-over : (b : Bool) (r : Record) (c : Context) → IsOver (closed (pick b (Refused NoEpilogue 0 0) (Accepted r)) c)
-function-over true r c = record { least = omega arith; most = omega arith; counted = refl; maps = refl }
+function-over true r c = record { named = refl; least = omega arith; most = omega arith; counted = refl; maps = refl }
 function-over false r c = tt
 
 module _ (before : Context) where
@@ -62,17 +64,18 @@ module _ (before : Context) where
       let o = c.given.options in
       function-over (ltb o.module_end (end_address o.known_end end c.progress.last_pool_address)) _ (ending_at before end c)
   settled-over (is-refused n l) =
-      let range = both_true (leb 5 (refusal_no n)) _ l in
-      record { least = leb-true _ _ range.0; most = omega (arith, leb-true (refusal_no n) 13 range.1); counted = refl; maps = refl }
+      let late = both_true (is_named n) _ l in
+      let range = both_true (leb 5 (refusal_no n)) _ late.1 in
+      record { named = late.0; least = leb-true _ _ range.0; most = omega (arith, leb-true (refusal_no n) 13 range.1); counted = refl; maps = refl }
 
   word_over : (x : Option ℕ) → IsOver (turn_at x before)
   word_over (Some word) =
       let i = decode_of word before.progress.address in
       settled-over (step-late i word arm_size (with_saved i before))
-  word_over None = record { least = omega arith; most = omega arith; counted = refl; maps = refl }
+  word_over None = record { named = refl; least = omega arith; most = omega arith; counted = refl; maps = refl }
 
 module _ (g : Given) where
-  turn-over : (w : Walk) (m : Maps) → IsOver (turn g w m)
+  pub turn-over : (w : Walk) (m : Maps) → IsOver (turn g w m)
   unfolding turn
   turn-over w m = word_over (context_at g w m) (word_from g.code g.options.base w.progress.address)
 
@@ -90,37 +93,17 @@ module _ (g : Given) where
 zeros-again : (l : Lists) → zeroed (zeroed l) ≡ zeroed l
 zeros-again l = same-written (zeroed l) l (written-places l no_maps (none-fits (places_of l))) no_maps
 
--- the refusal of a begin, if there is one, is among the first four
-abbrev IsEarly : Result (Unit {0}) Refusal → Type 0
-IsEarly (Ok t) = Unit {0}
-IsEarly (Err refusal) = (1 ≤ refusal_no refusal) × (refusal_no refusal ≤ 4)
-
-begin-early : (p q r t : Bool)
-    → IsEarly (pick p (pick q (pick r (pick t (Ok tt) (Err BadLists)) (Err UnalignedStart)) (Err BadStart)) (Err BadWindow))
-begin-early true true true true = tt
-begin-early true true true false = (omega arith, omega arith)
-begin-early true true false t = (omega arith, omega arith)
-begin-early true false r t = (omega arith, omega arith)
-begin-early false q r t = (omega arith, omega arith)
-
 module _ (o : Options) (start : ℕ) (code starts : List ℕ) (n : Counts) (l : Lists) where
-  abbrev check : Result (Unit {0}) Refusal
-  check = begin_check o start (length code) starts
-
-  check-early : IsEarly check
-  unfolding begin_check
-  check-early = begin-early (is_window o (length code)) (is_in_code o.base (length code) start) (eqb (start % 4) 0) (are_starts starts)
-
   -- a begin that is refused
   begin-ended : is_going (opened o start code starts n l).answer ≡ false → Ended n l (opened o start code starts n l)
   unfolding begin begun
-  begin-ended = step check check-early
+  begin-ended = step (begin_check o start (length code) starts) (begin-early o start (length code) starts)
     where
       step : (b : Result (Unit {0}) Refusal) → IsEarly b → is_going (begin_where start n l b).answer ≡ false → Ended n l (begin_where start n l b)
       step (Ok t) e off = let z : ◌≡◌ {A = ℕ} 0 1 = cc in omega arith
       step (Err refusal) e off =
-          let early = le-leb (refusal_no refusal) 4 e.1 in
-          record { least = e.0; most = omega (arith, e.1); counted = rw early; holds = rw early }
+          let early = le-leb (refusal_no refusal) 4 e.2 in
+          record { least = e.1; most = omega (arith, e.2); counted = rw early; holds = rw early }
 
   -- one that went on
   abbrev end : Turned

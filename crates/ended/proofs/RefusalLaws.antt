@@ -1,9 +1,9 @@
--- A step's refusal is one of document 01's 5 to 13, block by block.
+-- A step's refusal is one of document 01's 5 to 13, by its name, block by block.
 -- Assumes nothing.
 use Rattle.base.proofs.Prelude.{refl, ◌≡◌, true, false, Bool, not, List, [], ◌∷◌, some, none, Option, ℕ, ◌+◌, eqb, ltb, leb}
 use Rattle.std.specs.Prelude.{Option as Optional, Some, None, Result, Ok, Err}
 use Rattle.base.specs.declared.refusal.Refusal.{Refusal}
-use Rattle.base.specs.Refusals.{refusal_no}
+use Rattle.base.specs.Refusals.{refusal_no, is_named}
 use Rattle.base.specs.declared.refusal.Refusal.{Refusal}
 use Rattle.base.specs.declared.refusal.Refusal.TheVariants.{IllegalOpcode, ShiftedBase, OffsetByItself, PcIntoPc, Beyond32Bits}
 use Rattle.classes.specs.declared.Op2.{Op2}
@@ -44,9 +44,9 @@ use Rattle.rows.specs.Map.{key_of, stands-in, at_or_above, fits}
 use Rattle.rows.specs.Run.{gap_from}
 use Rattle.walk.specs.Checking.{undefined_register}
 
--- a refusal of a step, by its number
+-- a refusal of a step
 abbrev pub is_late : Refusal → Bool
-is_late refusal = both (leb 5 (refusal_no refusal)) (leb (refusal_no refusal) 13)
+is_late refusal = both (is_named refusal) (both (leb 5 (refusal_no refusal)) (leb (refusal_no refusal) 13))
 
 -- a step that is refused is so by one of these
 pub data Late : Step → Type 0 where

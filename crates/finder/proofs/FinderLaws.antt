@@ -7,6 +7,7 @@ use Rattle.context.specs.Lists.{Lists, maps_in}
 use Rattle.context.specs.Turn.{no_maps, counts_of}
 use Rattle.ended.specs.Ended.{EndedBy}
 use Rattle.ended.proofs.EndedLaws.{ended}
+use Rattle.ended.proofs.NamedLaws.{AnswerNamed, run-named}
 use Rattle.listing.specs.Lines.{field, newline}
 use Rattle.listing.specs.Listing.{record_line, refusal_line, shown, list_lines, text_with, text_of, room_with, room_for}
 use Rattle.listing.proofs.ListingLaws.{record-length}
@@ -74,6 +75,15 @@ module _ (input : List ℕ) (before : Lists) where
           over (run r.options (code_of input) [] r.start (counts_of no_maps) before) _
           (ended r.options r.start (code_of input) [] (counts_of no_maps) before) e
       go None e = let z : ◌≡◌ {A = ℕ} 0 1 = cc in omega arith
+
+  -- and a refusal has a name
+  pub found-named : AnswerNamed all.answer
+  unfolding found found_in found_by
+  found-named = go (parsed input)
+    where
+      go : (p : Option Request) → AnswerNamed (found_in p input before).answer
+      go (Some r) = (run-named r.options (code_of input) [] r.start (counts_of no_maps) before).0
+      go None = refl
 
   abbrev listed : Counts
   listed = shown all.lists all.counts

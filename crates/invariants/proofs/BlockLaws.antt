@@ -76,9 +76,13 @@ loaded_from i a value c =
     (with_maps (pools_to (inserted key_of (a ∷ value ∷ other ∷ []) c.maps.pools) c.maps)
     (with_registers (holding c.registers i.rd value a) c))
 
+-- of the machines that a block leaves: the one of illegal code stands as it stood, or has its next state
+abbrev pub Coded : Ins → Context → Machines → Type 0
+Coded i c m = (m.illegal_code ≡ c.machines.illegal_code) ⊎ (m.illegal_code ≡ code_machine c.machines.illegal_code i)
+
 -- the assignments of a step, and a property that each of them keeps; and what it comes to where the step ends
 pub record Kept (i : Ins) (size : ℕ) (P : Context → Type 0) (E : ℕ → Context → Type 0) : Type 0 where
-  pub machines : (m : Machines) (c : Context) → P c → P (with_machines m c)
+  pub machines : (m : Machines) (c : Context) → Coded i c m → P c → P (with_machines m c)
   pub raises : (d : ℕ) (c : Context) → P c → P (with_progress (raising d c.progress) c)
   pub tables : (d : ℕ) (c : Context) → P c → P (with_progress (table_to d c.progress) c)
   pub defines : (d : ℕ) (c : Context) → P c → P (with_progress (defining d c.progress) c)
@@ -152,10 +156,10 @@ module _ (i : Ins) (size : ℕ) (P G : Context → Type 0) (E : ℕ → Context 
   raised-kept (Err r) c p = is-refused
 
   jump_kept : (a : Answer) (c : Context) → P c → Meet (after_jump i a c)
-  jump_kept (Ok (s, None)) c p = raised-kept (table_end s) _ (k.machines _ c p)
+  jump_kept (Ok (s, None)) c p = raised-kept (table_end s) _ (k.machines _ c (inl refl) p)
   jump_kept (Ok (s, Some t)) c p =
       chained
-      (chosen _ (λ e. is-on (k.jump_tables (t.address ∷ t.size ∷ []) _ refl e (k.machines _ c p))) (λ _. is-refused))
+      (chosen _ (λ e. is-on (k.jump_tables (t.address ∷ t.size ∷ []) _ refl e (k.machines _ c (inl refl) p))) (λ _. is-refused))
       (raised-kept (table_end s))
   jump_kept (Err r) c p = is-refused
 
@@ -170,7 +174,7 @@ module _ (i : Ins) (size : ℕ) (P G : Context → Type 0) (E : ℕ → Context 
 
   illegal_code-kept : (c : Context) → P c → Meet (illegal_code i c)
   unfolding illegal_code
-  illegal_code-kept c p = code-kept (code_machine c.machines.illegal_code i) _ (k.machines _ c p)
+  illegal_code-kept c p = code-kept (code_machine c.machines.illegal_code i) _ (k.machines _ c (inr refl) p)
 
   branch_outside-kept : (c : Context) → P c → Meet (branch_outside i c)
   unfolding branch_outside
@@ -232,7 +236,7 @@ module _ (i : Ins) (size : ℕ) (P G : Context → Type 0) (E : ℕ → Context 
   table_kept None c p = is-on p
 
   inline-kept : (a : Result InlineTableState Refusal) (c : Context) → P c → Meet (after_inline i a c)
-  inline-kept (Ok s) c p = table_kept (table_of s) _ (k.machines _ c p)
+  inline-kept (Ok s) c p = table_kept (table_of s) _ (k.machines _ c (inl refl) p)
   inline-kept (Err r) c p = is-refused
 
   inline_table-kept : (c : Context) → P c → Meet (inline_table i c)
@@ -320,7 +324,7 @@ module _ (i : Ins) (size : ℕ) (P G : Context → Type 0) (E : ℕ → Context 
 
   branch_kept : (word : ℕ) (block : Bool) (c : Context) → P c → Comes (branch i word size block c)
   unfolding branch branched
-  branch_kept word block c p = let q = k.machines _ c p in chosen (is_branch i) (λ _. branches-kept word block _ q) (λ _. is-on q)
+  branch_kept word block c p = let q = k.machines _ c (inl refl) p in chosen (is_branch i) (λ _. branches-kept word block _ q) (λ _. is-on q)
 
   -- ---- and so the step
 

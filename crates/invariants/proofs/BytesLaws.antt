@@ -71,7 +71,7 @@ module _ (i : Ins) (word size : ℕ) (c : Context) where
 
   any-kept : Kept i size (λ d. Unit {0}) (λ e d. Unit {0})
   any-kept = record {
-    machines = λ m c p. tt;
+    machines = λ m c n p. tt;
     raises = λ d c p. tt;
     tables = λ d c p. tt;
     defines = λ d c p. tt;

@@ -47,7 +47,7 @@ module _ (i : Ins) (size a : ℕ) where
 
   ahead-kept : Kept i size Ahead (λ e c. EndsAt e)
   ahead-kept = record {
-    machines = λ m c p. p;
+    machines = λ m c n p. p;
     raises = λ d c p. p;
     tables = λ d c p. p;
     defines = λ d c p. p;
@@ -103,7 +103,7 @@ AtNext size c = c.next ≡ c.progress.address + size
 
 next-kept : (i : Ins) (size : ℕ) → Kept i size (AtNext size) (λ e d. Unit {0})
 next-kept i size = record {
-  machines = λ m c p. p;
+  machines = λ m c n p. p;
   raises = λ d c p. p;
   tables = λ d c p. p;
   defines = λ d c p. p;

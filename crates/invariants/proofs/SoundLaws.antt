@@ -111,7 +111,7 @@ module _ (i : Ins) (size : ℕ) where
   same_kept : (g : Given) (start saved : ℕ)
       → Kept i size (Same g start saved) (λ e c. Same g start saved c)
   same_kept g start saved = record {
-    machines = λ m c p. p;
+    machines = λ m c n p. p;
     raises = λ d c p. p;
     tables = λ d c p. p;
     defines = λ d c p. p;
@@ -151,7 +151,7 @@ module _ (i : Ins) (size : ℕ) where
   sound-kept : Kept i size Sound (λ e c. Sound c)
   unfolding forgotten
   sound-kept = record {
-    machines = λ m c p. p;
+    machines = λ m c n p. p;
     raises = λ d c p. p;
     tables = λ d c p. p;
     defines = λ d c p. p;

@@ -1,2 +1,3 @@
 -- What the proofs above this crate share.
 pub mod SavedLaws
+pub mod ModeLaws

@@ -79,6 +79,11 @@ mode_no Arm = 0
 mode_no Thumb = 1
 mode_no (Other number) = number
 
+-- it has one of those two names
+abbrev pub is_named : Mode → Bool
+is_named (Other number) = false
+is_named mode = true
+
 -- is_return of an instruction that is not conditional, in the source's order
 abbrev pub is_ia : LdmStmMode → Bool
 is_ia Da = false

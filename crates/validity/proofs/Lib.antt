@@ -1,2 +1,3 @@
--- The laws behind this crate's proofs.
+-- The laws behind this crate's proofs, and which refusals its checks give.
 pub mod Laws
+pub mod EarlyLaws
